@@ -37,8 +37,8 @@ pub mod losses {
 /// One engine for many threads, beside the history of their calls.
 pub mod shared {
     pub use raft_shared::{
-        Call, Finished, Receipt, Recorded, Refused, Reply, Seat, Shared, SharedBytes, SharedCall,
-        Unfinished,
+        Call, Finished, Purged, Receipt, Recorded, Refused, Reply, Seat, Shared, SharedBytes,
+        SharedCall, Unfinished,
     };
 }
 

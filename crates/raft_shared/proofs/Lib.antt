@@ -1,5 +1,6 @@
 pub mod HistoryLemmas
 pub mod CallLemmas
+pub mod PurgeLemmas
 pub mod OnceLemmas
 pub mod SharedLemmas
 pub mod SettledLemmas

@@ -1,5 +1,5 @@
 -- What the engine says of a numbered write makes it legal in a history.
-use Rattle.std.proofs.Common.{◌≡◌, ◌∙◌, ◌⊎◌, ◌≤◌, inl, inr, ℕ, cond, Bool, true, false, List, [], ◌∷◌, Some, Result, Ok, Err, IfErr, IsErrAnd, arith, refl, subst, sym, ap}
+use Rattle.std.proofs.Common.{◌≡◌, ◌∙◌, ◌⊎◌, ◌≤◌, inl, inr, ℕ, cond, Bool, true, false, List, [], ◌∷◌, Result, Ok, Err, IfErr, IsErrAnd, arith, refl, subst, sym, ap}
 use Rattle.std.specs.Prelude.{nat_le, nat_lt}
 use Rattle.std.proofs.lemmas.Bool.{and_parts, false≢true, leb-true, ltb-true}
 use Rattle.raft_base.specs.Fault.{fault_code}
@@ -12,15 +12,14 @@ use Rattle.raft_pipes.specs.PipeState.{last_seq}
 use Rattle.raft_pipes.specs.Queue.{NamesLog}
 use Rattle.raft_records.specs.Contents.{Contents, after_batch}
 use Rattle.raft_records.specs.Item.{Batch}
-use Rattle.raft_records.specs.Validity.{IsValidBatch, batch_refusal}
-use Rattle.raft_once.specs.Numbers.{Pair, are_new, are_old, are_unfit, has_numbers, meets_number, number_of, numbered}
+use Rattle.raft_once.specs.Numbers.{Pair, are_new, are_old, are_unfit, meets_number, number_of, numbered}
 use Rattle.raft_once.proofs.BatchLemmas.{numbered_refusal, plain_meets_none}
 use Rattle.raft_log_engine.specs.Calls.{IsWrite}
 use Rattle.raft_log_engine.specs.Engine.{contents_of, folders_of, has_failed, queue_of, refusals_of}
 use Rattle.raft_log_engine.specs.Once.{IsActingOnce, IsOldOnce, IsOnceRefusal, IsRefusedOnce, IsStaleOnce, IsUnfitOnce, IsWriteOnce}
 use Rattle.raft_log_engine.specs.declared.engine.Engine.{Engine}
 use Rattle.raft_shared.specs.Begun.{CountsRefusals, lacks_numbers, lacks_numbers_in}
-use Rattle.raft_shared.specs.History.{Answer, Event, IsCallersAnswer, IsLegalCall, IsOldAnswer, IsOnceAnswer, Size, WriteOnce, after_event, is_storage_refusal, refused}
+use Rattle.raft_shared.specs.History.{Answer, IsCallersAnswer, IsLegalCall, IsOldAnswer, IsOnceAnswer, Size, WriteOnce, after_event, is_storage_refusal, refused}
 use Rattle.raft_shared.specs.Words.{answer_by, reason_of, without_path}
 use Rattle.raft_shared.proofs.CallLemmas.{call_ends, counts_none, err_is, refused_invalid, write_answered, write_counts, write_goes_on}
 
@@ -47,25 +46,25 @@ new_not_old : (m : Contents) (pairs : List Pair) → are_unfit pairs ≡ false �
 new_not_old m pairs fit new = false_unless (are_old m pairs) (λ old. never_both m pairs fit old new)
 
 -- a sync is refused, where there is nothing to write
-old_refused : (folders : Folders) (old new : Refusals) (e : Fault) (fails : Bool) → FailsCountedAt (NamesLog folders) old new e → IsOldAnswer true (Size (Err (without_path (reason_of e)))) fails
-old_refused folders old new (fault.Io kind text) fails cause = (refl, refl)
-old_refused folders old new fault.Memory fails cause = refl
-old_refused folders old new (fault.InvalidArgument text) fails cause = absurd cause
-old_refused folders old new fault.Corruption fails cause = absurd cause
-old_refused folders old new fault.TryAgain fails cause = absurd cause
-old_refused folders old new fault.Gap fails cause = absurd cause
-old_refused folders old new fault.Range fails cause = absurd cause
-old_refused folders old new fault.EntryCompacted fails cause = absurd cause
-old_refused folders old new fault.EntryNotFound fails cause = absurd cause
-old_refused folders old new fault.WrongIndex fails cause = absurd cause
-old_refused folders old new fault.Parse fails cause = absurd cause
-old_refused folders old new fault.Failed fails cause = absurd cause
-old_refused folders old new fault.Lz4 fails cause = absurd cause
-old_refused folders old new fault.FileOutOfRange fails cause = absurd cause
-old_refused folders old new fault.NotRecovered fails cause = absurd cause
-old_refused folders old new fault.TrailFull fails cause = absurd cause
-old_refused folders old new fault.Layer fails cause = absurd cause
-old_refused folders old new fault.StaleNumber fails cause = absurd cause
+old_refused : (folders : Folders) (old new : Refusals) (e : Fault) (fails : Bool) → FailsCountedAt (NamesLog folders) old new e → fails ≡ true → IsOldAnswer true (Size (Err (without_path (reason_of e)))) fails
+old_refused folders old new (fault.Io kind text) fails cause halts = (refl, refl, halts)
+old_refused folders old new fault.Memory fails cause halts = (refl, halts)
+old_refused folders old new (fault.InvalidArgument text) fails cause halts = absurd cause
+old_refused folders old new fault.Corruption fails cause halts = absurd cause
+old_refused folders old new fault.TryAgain fails cause halts = absurd cause
+old_refused folders old new fault.Gap fails cause halts = absurd cause
+old_refused folders old new fault.Range fails cause halts = absurd cause
+old_refused folders old new fault.EntryCompacted fails cause halts = absurd cause
+old_refused folders old new fault.EntryNotFound fails cause halts = absurd cause
+old_refused folders old new fault.WrongIndex fails cause halts = absurd cause
+old_refused folders old new fault.Parse fails cause halts = absurd cause
+old_refused folders old new fault.Failed fails cause halts = absurd cause
+old_refused folders old new fault.Lz4 fails cause halts = absurd cause
+old_refused folders old new fault.FileOutOfRange fails cause halts = absurd cause
+old_refused folders old new fault.NotRecovered fails cause halts = absurd cause
+old_refused folders old new fault.TrailFull fails cause halts = absurd cause
+old_refused folders old new fault.Layer fails cause halts = absurd cause
+old_refused folders old new fault.StaleNumber fails cause halts = absurd cause
 
 module _ (m : Contents) (ended : Bool) (items : Batch) (pairs : List Pair) (sync : Bool) (answer : Answer) (fails : Bool) where
   -- an answer, by what the numbers are
@@ -80,32 +79,38 @@ callers_at : (m : Contents) (ended : Bool) (items : Batch) (pairs : List Pair) (
     → IsCallersAnswer (meets_number m items) m ended (numbered items pairs) answer fails
 callers_at m ended items pairs answer fails met is legal = subst (λ x. IsCallersAnswer x m ended (numbered items pairs) answer fails) (sym is) legal
 
+-- a batch with numbers isn't empty
+numbered_some : (items : Batch) (pairs : List Pair) → are_unfit pairs ≡ false → numbered items pairs ≡ [] → ⊥
+numbered_some [] [] fit none = absurd (false≢true (sym fit))
+numbered_some [] (p ∷ ps) fit none = absurd (cc none)
+numbered_some (item ∷ items) pairs fit none = absurd (cc none)
+
 -- a batch with new numbers that isn't written, and that storage has no part in it
-refused_as : (m : Contents) (ended : Bool) (items : Batch) (pairs : List Pair) (fails : Bool) (e : Fault) → fails ≡ false → IsOnceRefusal m items e
+refused_as : (m : Contents) (ended : Bool) (items : Batch) (pairs : List Pair) (fails : Bool) (e : Fault) → are_unfit pairs ≡ false → fails ≡ false → IsOnceRefusal m items e
     → IsCallersAnswer (meets_number m items) m ended (numbered items pairs) (Size (Err (without_path (reason_of e)))) fails × (is_storage_refusal (Size (Err (without_path (reason_of e)))) ≡ false)
-refused_as m ended items pairs fails (fault.InvalidArgument text) stands cause = (callers_at m ended items pairs _ fails true cause (refl, stands), refl)
-refused_as m ended items pairs fails fault.Gap stands cause = (callers_at m ended items pairs _ fails false cause.0 (numbered_refusal m items pairs ∙ cause.1, stands), refl)
-refused_as m ended items pairs fails fault.Range stands cause = (callers_at m ended items pairs _ fails false cause.0 (inl (numbered_refusal m items pairs ∙ cause.1), stands), refl)
-refused_as m ended items pairs fails fault.Memory stands cause = (callers_at m ended items pairs _ fails false (plain_meets_none m items cause.0) (numbered_refusal m items pairs ∙ cause.1), refl)
-refused_as m ended items pairs fails fault.Corruption stands cause = absurd cause
-refused_as m ended items pairs fails (fault.Io kind text) stands cause = absurd cause
-refused_as m ended items pairs fails fault.TryAgain stands cause = absurd cause
-refused_as m ended items pairs fails fault.EntryCompacted stands cause = absurd cause
-refused_as m ended items pairs fails fault.EntryNotFound stands cause = absurd cause
-refused_as m ended items pairs fails fault.WrongIndex stands cause = absurd cause
-refused_as m ended items pairs fails fault.Parse stands cause = absurd cause
-refused_as m ended items pairs fails fault.Failed stands cause = absurd cause
-refused_as m ended items pairs fails fault.Lz4 stands cause = absurd cause
-refused_as m ended items pairs fails fault.FileOutOfRange stands cause = absurd cause
-refused_as m ended items pairs fails fault.NotRecovered stands cause = absurd cause
-refused_as m ended items pairs fails fault.TrailFull stands cause = absurd cause
-refused_as m ended items pairs fails fault.Layer stands cause = absurd cause
-refused_as m ended items pairs fails fault.StaleNumber stands cause = absurd cause
+refused_as m ended items pairs fails (fault.InvalidArgument text) fit stands cause = (callers_at m ended items pairs _ fails true cause (refl, stands), refl)
+refused_as m ended items pairs fails fault.Gap fit stands cause = (callers_at m ended items pairs _ fails false cause.0 (numbered_refusal m items pairs ∙ cause.1, stands), refl)
+refused_as m ended items pairs fails fault.Range fit stands cause = (callers_at m ended items pairs _ fails false cause.0 (inl (numbered_refusal m items pairs ∙ cause.1), stands), refl)
+refused_as m ended items pairs fails fault.Memory fit stands cause = (callers_at m ended items pairs _ fails false (plain_meets_none m items cause.0) (numbered_refusal m items pairs ∙ cause.1, (λ none. absurd (numbered_some items pairs fit none))), refl)
+refused_as m ended items pairs fails fault.Corruption fit stands cause = absurd cause
+refused_as m ended items pairs fails (fault.Io kind text) fit stands cause = absurd cause
+refused_as m ended items pairs fails fault.TryAgain fit stands cause = absurd cause
+refused_as m ended items pairs fails fault.EntryCompacted fit stands cause = absurd cause
+refused_as m ended items pairs fails fault.EntryNotFound fit stands cause = absurd cause
+refused_as m ended items pairs fails fault.WrongIndex fit stands cause = absurd cause
+refused_as m ended items pairs fails fault.Parse fit stands cause = absurd cause
+refused_as m ended items pairs fails fault.Failed fit stands cause = absurd cause
+refused_as m ended items pairs fails fault.Lz4 fit stands cause = absurd cause
+refused_as m ended items pairs fails fault.FileOutOfRange fit stands cause = absurd cause
+refused_as m ended items pairs fails fault.NotRecovered fit stands cause = absurd cause
+refused_as m ended items pairs fails fault.TrailFull fit stands cause = absurd cause
+refused_as m ended items pairs fails fault.Layer fit stands cause = absurd cause
+refused_as m ended items pairs fails fault.StaleNumber fit stands cause = absurd cause
 
 module _ {F H R W : Type 0} {g : Ghosts F H R W} where
   old_answered : (sync : Bool) (old new : Engine F H R W g) (result : Result ℕ Fault) → IsWrite [] [] sync old new result → has_failed old ≡ false → IsOldAnswer sync (Size (answer_by (λ n. n) result)) (has_failed new)
   old_answered sync old new (Ok size) write is = (write.ok.len_is, write.ok.stands)
-  old_answered true old new (Err e) write is = old_refused (folders_of old) (refusals_of old) (refusals_of new) e (has_failed new) (write.memory is refl).1
+  old_answered true old new (Err e) write is = old_refused (folders_of old) (refusals_of old) (refusals_of new) e (has_failed new) (write.memory is refl).1 (write.halts refl)
   old_answered false old new (Err e) write is = absurd (let clash = ((write.memory is refl).0 refl).0 in cc)
 
   -- an engine that stands after a numbered write stood before it
@@ -131,10 +136,10 @@ module _ {F H R W : Type 0} {g : Ghosts F H R W} where
       stands : new ≡ old → has_failed new ≡ false
       stands same = ap has_failed same ∙ is
 
-      refused_by : (r : Result ℕ Fault) → has_failed new ≡ false → IsErrAnd r (IsOnceRefusal (contents_of old) items)
+      refused_by : (r : Result ℕ Fault) → are_unfit pairs ≡ false → has_failed new ≡ false → IsErrAnd r (IsOnceRefusal (contents_of old) items)
           → IsCallersAnswer (meets_number (contents_of old) items) (contents_of old) ended (numbered items pairs) (Size (answer_by (λ n. n) r)) (has_failed new)
-      refused_by (Ok size) fails cause = absurd cause
-      refused_by (Err e) fails cause = (refused_as (contents_of old) ended items pairs (has_failed new) e fails cause).0
+      refused_by (Ok size) fit fails cause = absurd cause
+      refused_by (Err e) fit fails cause = (refused_as (contents_of old) ended items pairs (has_failed new) e fit fails cause).0
 
       by : IsUnfitOnce pairs old new result ⊎ IsOldOnce pairs sync old new result ⊎ IsStaleOnce pairs old new result ⊎ IsRefusedOnce items pairs old new result ⊎ IsActingOnce items pairs sync old new result
           → Legal (are_unfit pairs) (are_old (contents_of old) pairs) (are_new (contents_of old) pairs)
@@ -142,7 +147,7 @@ module _ {F H R W : Type 0} {g : Ghosts F H R W} where
       by (inr (inl o)) = at false true (are_new (contents_of old) pairs) o.fit o.numbers refl
           (old_answered sync old new result o.write is)
       by (inr (inr (inl s))) = at false false false s.fit s.not_old s.not_new (ap (λ r. Size (answer_by (λ n. n) r)) s.refused, stands s.same)
-      by (inr (inr (inr (inl r)))) = at false false true r.fit (new_not_old (contents_of old) pairs r.fit r.numbers) r.numbers (refused_by result (stands r.same) r.cause)
+      by (inr (inr (inr (inl r)))) = at false false true r.fit (new_not_old (contents_of old) pairs r.fit r.numbers) r.numbers (refused_by result r.fit (stands r.same) r.cause)
       by (inr (inr (inr (inr a)))) = at false false true a.fit (new_not_old (contents_of old) pairs a.fit a.numbers) a.numbers
           (callers_at (contents_of old) ended items pairs _ (has_failed new) false (plain_meets_none (contents_of old) items a.plain)
           (write_answered (numbered items pairs) a.copied sync old new result a.write (contents_of old) refl ended numbers is
@@ -228,7 +233,7 @@ module _ {F H R W : Type 0} {g : Ghosts F H R W} where
       by (inl u) = unless_storage _ refl (ap is_storage_refusal (refused_invalid (Err e) u.refused))
       by (inr (inl o)) = write_counts seat [] [] sync old new (Err e) o.write
       by (inr (inr (inl s))) = subst Counts (sym (err_is s.refused)) (counts_none w.advance.any_moment.no_fewer)
-      by (inr (inr (inr (inl r)))) = unless_storage _ refl (refused_as (contents_of old) false items pairs false e refl r.cause).1
+      by (inr (inr (inr (inl r)))) = unless_storage _ refl (refused_as (contents_of old) false items pairs false e r.fit refl r.cause).1
       by (inr (inr (inr (inr a)))) = write_counts seat (numbered items pairs) a.copied sync old new (Err e) a.write
 
       counted : (was : Bool) → has_failed old ≡ was → Counts e

@@ -1,5 +1,5 @@
 -- What there was of an engine when it was shared.
-use Rattle.std.specs.Prelude.{suc, nat_le, ◌+◌, ◌-◌, ◌^◌, ◌≤◌, min, Bool, false, List, [], ◌∷◌}
+use Rattle.std.specs.Prelude.{suc, nat_le, not, ◌&&◌, ◌+◌, ◌-◌, ◌^◌, ◌≤◌, min, Bool, false, List, [], ◌∷◌}
 use Rattle.raft_records.specs.Contents.{Contents, no_contents}
 use Rattle.raft_env.specs.Refusal.{Refusals, no_refusals}
 use Rattle.raft_env.specs.declared.env.FileSystem.{Ghosts}
@@ -27,6 +27,10 @@ module _ {F H R W : Type 0} {g : Ghosts F H R W} where
   -- no number is left for a log file behind the last one
   abbrev pub lacks_numbers : Engine F H R W g → Bool
   lacks_numbers engine = nat_le (10 ^ 16) (suc (last_seq (queue_of engine)))
+
+  -- .. of one that stands
+  abbrev pub is_out_of_numbers : Engine F H R W g → Bool
+  is_out_of_numbers engine = not (has_failed engine) && lacks_numbers engine
 
   -- .. of an engine as it was
   abbrev pub lacks_numbers_in : List (Engine F H R W g) → Bool

@@ -15,6 +15,8 @@ pub data Asked : Type 0 where
   -- .. with numbers of groups, that it acts once
   WriteOnce : (batch : Batch) (pairs : List Pair) (sync : Bool) → Asked
   Sync : Asked
+  -- a purge by watermarks, with its barrier
+  Purge : (barrier : ℕ) → Asked
   Get : (group : ℕ) (key : List ℕ) → Asked
   First : (group : ℕ) → Asked
   Last : (group : ℕ) → Asked
@@ -60,7 +62,7 @@ after_events m events = fold after_event m events
 
 -- the write of a batch is refused for that alone, or of a valid batch by storage, without a path, for
 -- want of memory, or since its record is too long or numbers of log files have ended; the engine may
--- fail by storage or for want of memory
+-- fail by storage or for want of memory, and does where there was nothing but a sync
 abbrev pub IsRefusedWrite : Contents → Bool → Batch → Reason → Bool → Type 0
 IsRefusedWrite m ended batch Gap fails =
     (batch_refusal m batch ≡ Some fault.Gap) × (fails ≡ false)
@@ -68,8 +70,10 @@ IsRefusedWrite m ended batch Range fails = ((batch_refusal m batch ≡ Some faul
     ⊎ (IsValidBatch m batch × ((2 ^ 56 ≤ record_len batch) ⊎ (ended ≡ true))))
     × (fails ≡ false)
 IsRefusedWrite m ended batch TryAgain fails = IsValidBatch m batch × (fails ≡ false)
-IsRefusedWrite m ended batch (Io kind path) fails = IsValidBatch m batch × (path ≡ [])
-IsRefusedWrite m ended batch Memory fails = IsValidBatch m batch
+IsRefusedWrite m ended batch (Io kind path) fails =
+    IsValidBatch m batch × (path ≡ []) × (batch ≡ [] → fails ≡ true)
+IsRefusedWrite m ended batch Memory fails =
+    IsValidBatch m batch × (batch ≡ [] → fails ≡ true)
 IsRefusedWrite m ended batch Failed fails = ⊥
 IsRefusedWrite m ended batch Invalid fails = ⊥
 IsRefusedWrite m ended batch StaleNumber fails = ⊥
@@ -97,11 +101,13 @@ abbrev pub IsCallersAnswer : Bool → Contents → Bool → Batch → Answer →
 IsCallersAnswer true m ended written answer fails = IsRefusedAs Invalid answer fails
 IsCallersAnswer false m ended written answer fails = IsWriteAnswer m ended written answer fails
 
--- .. one with old numbers: nothing is written, and a sync that is asked for may be refused
+-- .. one with old numbers: nothing is written, and a sync that is asked for may be refused, which fails
+-- the engine
 abbrev pub IsOldAnswer : Bool → Answer → Bool → Type 0
 IsOldAnswer sync (Size (Ok size)) fails = (size ≡ 0) × (fails ≡ false)
-IsOldAnswer sync (Size (Err (Io kind path))) fails = (sync ≡ true) × (path ≡ [])
-IsOldAnswer sync (Size (Err Memory)) fails = sync ≡ true
+IsOldAnswer sync (Size (Err (Io kind path))) fails =
+    (sync ≡ true) × (path ≡ []) × (fails ≡ true)
+IsOldAnswer sync (Size (Err Memory)) fails = (sync ≡ true) × (fails ≡ true)
 IsOldAnswer sync answer fails = ⊥
 
 -- .. one with numbers, which are unfit, or old, or new, or some of them old and some new
@@ -114,6 +120,23 @@ IsOnceAnswer false false true m ended batch pairs sync answer fails =
     IsCallersAnswer (meets_number m batch) m ended (numbered batch pairs) answer fails
 IsOnceAnswer false false false m ended batch pairs sync answer fails =
     IsRefusedAs StaleNumber answer fails
+
+-- a purge is refused by storage, without a path, or for want of memory; since something of the contents has
+-- no record, or numbers of log files have ended or ids of atomic groups; or to be tried again for want of
+-- space, which fails the engine
+abbrev pub IsRefusedPurge : Reason → Bool → Type 0
+IsRefusedPurge (Io kind path) fails = path ≡ []
+IsRefusedPurge TryAgain fails = fails ≡ true
+IsRefusedPurge Memory fails = Unit {0}
+IsRefusedPurge Range fails = Unit {0}
+IsRefusedPurge Invalid fails = Unit {0}
+IsRefusedPurge reason fails = ⊥
+
+-- .. a purge
+abbrev pub IsPurgeAnswer : Answer → Bool → Type 0
+IsPurgeAnswer (Done (Ok _)) fails = fails ≡ false
+IsPurgeAnswer (Done (Err reason)) fails = IsRefusedPurge reason fails
+IsPurgeAnswer answer fails = ⊥
 
 -- .. a sync
 abbrev pub IsSyncAnswer : Answer → Bool → Type 0
@@ -140,6 +163,7 @@ IsAnswer m ended (WriteOnce batch pairs sync) answer fails =
     IsOnceAnswer (are_unfit pairs) (are_old m pairs) (are_new m pairs) m ended batch pairs sync
     answer fails
 IsAnswer m ended Sync answer fails = IsSyncAnswer answer fails
+IsAnswer m ended (Purge barrier) answer fails = IsPurgeAnswer answer fails
 IsAnswer m ended (Get group key) answer fails =
     IsGetAnswer ((shown m).value group key) answer fails
 IsAnswer m ended (First group) answer fails =
@@ -152,6 +176,7 @@ abbrev pub IsAnswerOfFailed : Asked → Answer → Type 0
 IsAnswerOfFailed (Write batch sync) answer = answer ≡ Size (Err Failed)
 IsAnswerOfFailed (WriteOnce batch pairs sync) answer = answer ≡ Size (Err Failed)
 IsAnswerOfFailed Sync answer = answer ≡ Done (Err Failed)
+IsAnswerOfFailed (Purge barrier) answer = answer ≡ Done (Err Failed)
 IsAnswerOfFailed (Get group key) answer = answer ≡ Value (Err Failed)
 IsAnswerOfFailed (First group) answer = (index : Option ℕ) × (answer ≡ Index index)
 IsAnswerOfFailed (Last group) answer = (index : Option ℕ) × (answer ≡ Index index)

@@ -1,5 +1,5 @@
 -- What a shared engine shows, and what its calls add to its history.
-use Rattle.std.specs.Prelude.{◌≡◌, ℕ, Bool, List, [], ◌∷◌, ◌++◌, if◌then◌else◌, length, map, Option, Result, Vec, option_map}
+use Rattle.std.specs.Prelude.{◌≡◌, ℕ, Bool, List, [], ◌∷◌, ◌++◌, if◌then◌else◌, IfOk, OnErr, length, map, Option, Result, Vec, option_map}
 use Rattle.std.specs.declared.alloc.Global.{Global}
 use Rattle.raft_base.specs.declared.errors.Fault.{Fault}
 use Rattle.raft_env.specs.Refusal.{Refusals}
@@ -11,9 +11,10 @@ use Rattle.raft_log_engine.specs.declared.engine.Engine.{Engine}
 use Rattle.raft_shared.specs.Begun.{contents_in, failed_in, lacks_numbers, lacks_numbers_in, refusals_in}
 use Rattle.raft_log_engine.specs.Calls.{IsCallersWrite, IsSync}
 use Rattle.raft_log_engine.specs.Once.{IsWriteOnce}
+use Rattle.raft_log_engine.specs.PurgeCalls.{IsExpiry}
 use Rattle.raft_once.specs.Numbers.{Pair}
 use Rattle.raft_shared.specs.Calls.{IsGet}
-use Rattle.raft_shared.specs.History.{Answer, Asked, Done, Event, Get, Index, Size, Sync, Value, Write, WriteOnce}
+use Rattle.raft_shared.specs.History.{Answer, Asked, Done, Event, Get, Index, Purge, Size, Sync, Value, Write, WriteOnce}
 use Rattle.raft_shared.specs.Words.{Told, answer_by, event_of, told_by}
 use Rattle.raft_shared.specs.declared.call.Receipt.{Receipt}
 use Rattle.raft_shared.specs.declared.seat.Seat.{Seat}
@@ -120,6 +121,18 @@ module _ {F H R W : Type 0} {g : Ghosts F H R W} where
     pub sync : IsSync (engine_of old) (engine_of new) result
     pub ended : had_ended new ≡ had_ended old
     pub recorded : HasRecorded Sync (Done (answer_by (λ _. tt) result)) old new seat seat' receipt
+
+  -- .. purged, and asked for the compaction of these groups
+  pub record RecordsPurge (barrier : ℕ) (old new : Shared F H R W g) (seat seat' : Seat)
+      (asked : List ℕ) (receipt : Receipt) : Type 0 where
+    pub result : Result (Vec ℕ Global) Fault
+    pub purge : IsExpiry barrier (engine_of old) (engine_of new) result
+    pub groups : IfOk result (λ groups. asked ≡ groups.items)
+    pub none : OnErr result (asked ≡ [])
+    pub ended : had_ended new ≡ (if has_failed (engine_of new) then had_ended old
+        else lacks_numbers (engine_of new))
+    pub recorded : HasRecorded (Purge barrier) (Done (answer_by (λ _. tt) result)) old new seat
+        seat' receipt
 
   -- .. looked a key up
   pub record RecordsGet (group : ℕ) (key : List ℕ) (old new : Shared F H R W g)

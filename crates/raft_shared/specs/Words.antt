@@ -7,7 +7,7 @@ use Rattle.std.specs.Prelude.{ℕ, suc, List, [], ◌∷◌, ◌==◌, Result, O
 use Rattle.raft_base.specs.Fault.{fault_code}
 use Rattle.raft_base.specs.declared.errors.Fault.{Fault}
 use Rattle.raft_base.specs.declared.errors.Fault.TheVariants as fault
-use Rattle.raft_shared.specs.History.{Answer, Asked, Done, Event, Failed, First, Gap, Get, Index, Invalid, Io, Last, Memory, Other, Range, Reason, Size, StaleNumber, Sync, TryAgain, Value, Write, WriteOnce}
+use Rattle.raft_shared.specs.History.{Answer, Asked, Done, Event, Failed, First, Gap, Get, Index, Invalid, Io, Last, Memory, Other, Purge, Range, Reason, Size, StaleNumber, Sync, TryAgain, Value, Write, WriteOnce}
 use Rattle.raft_shared.specs.declared.call.Call.{Call}
 use Rattle.raft_shared.specs.declared.call.Call.TheVariants as call
 use Rattle.raft_shared.specs.declared.call.Reply.{Reply}
@@ -49,6 +49,7 @@ abbrev pub asked_of : Call → Asked
 asked_of (call.Write batch sync) = Write batch.items sync
 asked_of (call.WriteOnce batch pairs sync) = WriteOnce batch.items pairs.items sync
 asked_of call.Sync = Sync
+asked_of (call.Purge barrier) = Purge barrier
 asked_of (call.Get group key) = Get group key.items
 asked_of (call.First group) = First group
 asked_of (call.Last group) = Last group

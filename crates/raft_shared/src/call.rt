@@ -14,6 +14,8 @@ pub enum Call {
     /// .. with groups and their numbers.
     WriteOnce(LogBatch, Vec<(u64, u64)>, bool),
     Sync,
+    /// A purge by watermarks, with its barrier.
+    Purge(u64),
     Get(u64, Vec<u8>),
     First(u64),
     Last(u64),
@@ -51,6 +53,14 @@ pub struct Receipt {
     pub reply: Reply,
 }
 
+/// What a purge was answered.
+#[derive(Drop)]
+pub struct Purged {
+    pub receipt: Receipt,
+    /// The groups whose compaction is asked for, which the history doesn't have. None after a refusal.
+    pub asked: Vec<u64>,
+}
+
 impl Reply {
     ghost use Rattle.raft_shared.specs.History.{Done, Size, Value};
     ghost use Rattle.raft_shared.specs.Words.{answer_of};
@@ -71,6 +81,16 @@ impl Reply {
     {
         Reply::Done(match done {
             Ok(()) => Ok(()),
+            Err(fault) => Err(without_path(alloc, fault)),
+        })
+    }
+
+    /// The reply of a purge. It takes no memory.
+    pub(crate) fn of_purge(alloc: Global, purged: &Result<Vec<u64>, Fault>) -> Reply
+        ensures value { answer_of result ≡ Done (answer_by (λ _. tt) purged.now) }
+    {
+        Reply::Done(match purged {
+            Ok(_) => Ok(()),
             Err(fault) => Err(without_path(alloc, fault)),
         })
     }

@@ -1,9 +1,10 @@
 //! Calls of the engine, with all that it says of each in one relation.
 ghost use Rattle.raft_log_engine.specs.Calls.{IsCallersWrite, IsSync};
 ghost use Rattle.raft_log_engine.specs.Once.{IsWriteOnce};
+ghost use Rattle.raft_log_engine.specs.PurgeCalls.{IsExpiry};
 ghost use Rattle.raft_shared.specs.Calls.{IsGet};
 
-use raft_log_engine::{Engine, Fault, FileSystem, LogBatch};
+use raft_log_engine::{Engine, Fault, FileSeq, FileSystem, LogBatch};
 
 /// `Engine::write`.
 pub(crate) fn write<F: FileSystem>(
@@ -35,6 +36,16 @@ pub(crate) fn sync<F: FileSystem>(engine: &mut Engine<F>) -> Result<(), Fault>
     ensures value { IsSync engine.old engine.new result }
 {
     engine.sync()
+}
+
+/// `Engine::purge_expired_files`.
+pub(crate) fn purge_expired_files<F: FileSystem>(
+    engine: &mut Engine<F>,
+    barrier: FileSeq,
+) -> Result<Vec<u64>, Fault>
+    ensures value { IsExpiry barrier engine.old engine.new result }
+{
+    engine.purge_expired_files(barrier)
 }
 
 /// `Engine::get`.

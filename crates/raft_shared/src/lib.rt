@@ -7,7 +7,7 @@ mod seat;
 mod settled;
 mod shared;
 
-pub use call::{Call, Receipt, Recorded, Reply, SharedBytes, SharedCall};
+pub use call::{Call, Purged, Receipt, Recorded, Reply, SharedBytes, SharedCall};
 pub use raft_log_engine::{Engine, Fault, FileSystem, LogBatch};
 pub use seat::Seat;
 pub use shared::{Finished, Refused, Shared, Unfinished};

@@ -80,6 +80,7 @@ fn is_same_call(a: &Call, b: &Call) -> bool
             sync == other_sync && are_same_pairs(pairs, other_pairs) && batch.has_items_of(other)
         }
         (Call::Sync, Call::Sync) => true,
+        (Call::Purge(barrier), Call::Purge(other)) => barrier == other,
         (Call::Get(group, key), Call::Get(other, other_key)) => group == other && key == other_key,
         (Call::First(group), Call::First(other)) => group == other,
         (Call::Last(group), Call::Last(other)) => group == other,

@@ -1,4 +1,4 @@
--- Those that share a sync may be shared by threads, and tickets and witnesses may go to another one.
+-- Those that share a sync may be shared by threads, and they, tickets and witnesses may go to another one.
 use base.Before.{chain}
 use base.Fml.{Lft}
 use base.Shift.{Keyless}
@@ -34,6 +34,9 @@ module _ (E A P : RattleType) (g : rule.Ghosts P.Denot E.Denot A.Denot) where
   seen_send : IsSend (seen.the_row E A P g)
   seen_send = record { owned = λ d vs. ((λ vss. (tt, ((λ uss. (tt, tt)), tt))), seen_keyless E.coded.code (rules g.holds g.shows g.keeps) d.book d.names d.log); leaving = λ k f vs. tt }
 
+  word_send : IsSend (word.the_row E A P g)
+  word_send = record { owned = λ d vs. ((λ _. tt), λ n. ((λ vss. (tt, ((tt, tt), ((λ uss. (tt, tt)), tt)))), beside_keyless E.coded.code g.hinted d.tracked d.key d.book n)); leaving = λ k d w. tt }
+
   word_sync : IsSync (word.the_row E A P g)
   word_sync = record { shared = λ d b o κ t. ((λ νs. chain_keyless νs κ t.0), ((λ _. tt), λ n. (tt, beside_keyless E.coded.code g.hinted d.tracked d.key d.book n))) }
 
@@ -68,6 +71,9 @@ module _ (J : RattleType) (n : naming.Ghosts J.Denot) where
   book_parts : IsSync J → AllSync (shape (book.the_type J n)).fields
   book_parts j = (search (sendable, items.crosses, word_sync) depth 20, (search (sendable, items.crosses) depth 20, tt))
 
+  book_sent : IsSend J → AllSend (shape (book.the_type J n)).fields
+  book_sent j = (search (sendable, items.crosses, word_send) depth 20, (search (sendable, items.crosses) depth 20, tt))
+
 module _ (F J H R W : RattleType) (g : files.Ghosts F.Denot H.Denot R.Denot W.Denot) (n : naming.Ghosts J.Denot) where
   desk_parts : IsSend F → IsSend W → IsSend J → AllSend (shape (desk.the_type F J H R W g n)).fields
   desk_parts f w j = (struct_send (shape (shared.the_type F H R W g)) (shared_parts F H R W g f w), (front_send J n j, (search (sendable, items.crosses) depth 20, tt)))
@@ -85,3 +91,14 @@ module _ (F J H R W : RattleType) (g : files.Ghosts F.Denot H.Denot R.Denot W.De
 
   pub tickets_sync : IsSend F → IsSend W → IsSend J → IsSync J → IsSync (tickets.the_row F J H R W g n)
   tickets_sync f w j y = recorded_sync _ _ _ (tickets.the_type F J H R W g n).to_one (struct_sync (shape (tickets.the_type F J H R W g n)) (tickets_parts f w j y))
+
+  tickets_sent : IsSend F → IsSend W → IsSend J → AllSend (shape (tickets.the_type F J H R W g n)).fields
+  tickets_sent f w j =
+      let desk = desk_send f w j in
+      let gate = gate_send J n j in (
+        struct_send (shape (book.the_type J n)) (book_sent J n j),
+        (search (sendable, items.crosses, desk) depth 20, (search (sendable, items.crosses, gate) depth 20, (search (sendable, items.crosses) depth 20, (search (sendable, items.crosses) depth 20, (search sendable, tt))))),
+      )
+
+  pub tickets_send : IsSend F → IsSend W → IsSend J → IsSend (tickets.the_row F J H R W g n)
+  tickets_send f w j = recorded_send _ _ _ (tickets.the_type F J H R W g n).to_one (struct_send (shape (tickets.the_type F J H R W g n)) (tickets_sent f w j))

@@ -3,4 +3,7 @@ pub mod Adding
 pub mod Durability
 pub mod Noting
 pub mod Witnesses
+pub mod Telling
+pub mod Turns
+pub mod Origins
 pub mod Crossing

@@ -1,11 +1,11 @@
 -- What stands in a beginning of the history stands in a longer one.
-use Rattle.std.proofs.Common.{◌≡◌, ◌∙◌, ℕ, Bool, true, false, List, [], ◌∷◌, ◌++◌, Option, Some, None, Ok, Err, slice_get, refl, sym, ap, true≢false}
+use Rattle.std.proofs.Common.{◌≡◌, ◌∙◌, ℕ, Bool, true, false, List, Option, Some, None, Ok, slice_get, refl, sym, ap, true≢false}
 use mathlib.Core.List.{IsPrefix}
 use Rattle.raft_records.specs.Item.{Batch}
-use Rattle.raft_shared.specs.History.{Answer, Asked, Done, Event, Size, Sync, Write}
-use Rattle.raft_shared.specs.Words.{Told, told_by}
+use Rattle.raft_shared.specs.History.{Done, Event, Size, Sync, Write}
+use Rattle.raft_shared.specs.Words.{told_by}
 use Rattle.raft_shared.specs.declared.call.Receipt.{Receipt}
-use Rattle.raft_tickets.specs.Calls.{IsWrittenAt, event_by, is_accepted_write, is_answered_sync, is_sync, is_sync_at, is_write, is_write_at}
+use Rattle.raft_tickets.specs.Calls.{IsWrittenAt, event_by, is_sync, is_sync_at, is_write, is_write_at}
 use Rattle.raft_tickets.proofs.Fronts.{prefix_get}
 
 module _ (xs ys : List Event) (k : ℕ) (p : IsPrefix xs ys) where

@@ -1,11 +1,11 @@
 -- What a beginning of the history shows of a batch and of a sync after it.
-use Rattle.std.specs.Prelude.{◌≡◌, ◌⊎◌, ◌++◌, ◌∷◌, [], ℕ, Bool, true, false, List, Option, Some, None, Ok, slice_get}
+use Rattle.std.specs.Prelude.{◌≡◌, ◌⊎◌, ◌++◌, ◌∷◌, [], ℕ, Bool, true, false, List, Option, Some, None, Ok, Err, slice_get}
 use Rattle.raft_base.specs.declared.errors.Fault.{Fault}
 use Rattle.raft_base.specs.declared.errors.Fault.TheVariants as fault
 use Rattle.raft_records.specs.Item.{Batch}
-use Rattle.raft_shared.specs.History.{Answer, Asked, Done, Event, Size, Sync, Write}
+use Rattle.raft_shared.specs.History.{Answer, Asked, Done, Event, Io, Memory, Size, Sync, Write}
 use Rattle.raft_shared.specs.Shared.{receipts_of}
-use Rattle.raft_shared.specs.Words.{Told, told_by}
+use Rattle.raft_shared.specs.Words.{reason_of, told_by}
 use Rattle.raft_shared.specs.declared.call.Receipt.{Receipt}
 use Rattle.raft_shared.specs.declared.seat.Seat.{Seat}
 
@@ -82,3 +82,29 @@ FailsAs asked answer old new e = IsUnasked old new e ⊎ IsTold asked answer old
 -- the seat was told of the sync that was done, or another seat was
 abbrev pub MayBeToldSync : Seat → Seat → Type 0
 MayBeToldSync old new = IsToldNothing old new ⊎ IsTold Sync (Done (Ok tt)) old new
+
+-- an answer of the engine after which a batch has its items still: a refusal in which it can't fail
+abbrev pub is_kept_after : Answer → Bool
+is_kept_after (Size (Ok size)) = false
+is_kept_after (Size (Err (Io kind path))) = false
+is_kept_after (Size (Err Memory)) = false
+is_kept_after (Size (Err reason)) = true
+is_kept_after answer = false
+
+-- where the seat was told such an answer the batch has its items still
+abbrev pub KeepsRefused : Batch → Batch → Seat → Seat → Type 0
+KeepsRefused items rest old new = (said : Answer) → IsTold (Write items false) said old new
+    → is_kept_after said ≡ true → rest ≡ items
+
+-- the seat was told of the write, which is at this place, and then maybe of the sync
+abbrev pub IsToldInTurn : ℕ → Batch → ℕ → Seat → Seat → Type 0
+IsToldInTurn number items size old new = (written : Seat)
+    × IsToldAt number (Write items false) (Size (Ok size)) old written
+    × MayBeToldSync written new
+
+-- the write failed so; or it was accepted, as the seat was told, and then the sync failed so
+abbrev pub FailsInTurn : Batch → Batch → Seat → Seat → Fault → Type 0
+FailsInTurn items rest old new e =
+    FailsAs (Write items false) (Size (Err (reason_of e))) old new e
+    ⊎ ((written : Seat) × (size : ℕ) × IsTold (Write items false) (Size (Ok size)) old written
+    × (rest ≡ []) × FailsAs Sync (Done (Err (reason_of e))) written new e)

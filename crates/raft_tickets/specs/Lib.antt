@@ -1,4 +1,5 @@
 pub mod Rules
+pub mod Origin
 pub mod Calls
 pub mod Durable
 pub mod Answer

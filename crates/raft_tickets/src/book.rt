@@ -59,15 +59,24 @@ impl Plain<Recorded, Recorded, u64> for Add {
     ghost state = { λ call. None };
 }
 
-/// Which book it is. Each call of a program picks it.
+/// Which book it is, and where the engine comes from whose calls it has. Each call of a program
+/// picks it.
 pub trait Naming {
+    ghost use Rattle.std.specs.Prelude.{Option};
     ghost use Rattle.logbook.specs.Pages.{Book};
+    ghost use Rattle.raft_tickets.specs.Origin.{Origin};
 
     ghost book: { Book };
+
+    ghost origin: { Option Origin };
 }
 
 impl Naming for Brand {
+    ghost use Rattle.std.specs.Prelude.{None};
+
     ghost book = { record { number = 0; log_name = 0; cells_name = 0 } };
+
+    ghost origin = { None };
 }
 
 /// A book with an empty history, which has no name yet.

@@ -1,16 +1,17 @@
 //! A shared engine, beside the front that its history is.
-ghost use Rattle.std.specs.Prelude.{◌≡◌, ◌⊎◌, ◌↔◌, ◌++◌, ◌∷◌, [], false, true, Err, length, map, take, OnErr, IfOk, IfErr, IfNone, IfSome, IsOk, Some, slice_get, if◌then◌else◌};
+ghost use Rattle.std.specs.Prelude.{◌≡◌, ◌⊎◌, ◌↔◌, ◌≤◌, ◌+◌, ◌-◌, ◌^◌, ◌++◌, ◌∷◌, [], false, true, Err, length, map, take, OnErr, IfOk, IfErr, IfNone, IfSome, IsOk, IsSomeAnd, Some, slice_get, if◌then◌else◌};
 ghost use Rattle.std.proofs.Props.{props};
 ghost use mathlib.Core.List.{IsPrefix};
 ghost use Rattle.raft_shared.specs.Shared.{history_of};
 ghost use Rattle.raft_shared.specs.Words.{event_of, told_by};
 ghost use Rattle.raft_tickets.specs.Calls.{event_by, is_done};
 ghost use Rattle.raft_tickets.specs.Durable.{AreDurableTo, IsFound};
+ghost use Rattle.raft_tickets.specs.Origin.{origin_of};
 
 use crate::book::{Book, Front, Naming};
 use crate::ticket::Durable;
 use raft_log_engine::{Fault, FileSystem, LogBatch};
-use raft_shared::{Finished, Receipt, Recorded, Reply, Seat, Shared, Unfinished};
+use raft_shared::{Finished, Purged, Receipt, Recorded, Reply, Seat, Shared, Unfinished};
 
 /// A shared engine, which lies under a lock. Its front begins its history: it is all of it, unless
 /// the book has calls of another engine.
@@ -18,10 +19,11 @@ use raft_shared::{Finished, Receipt, Recorded, Reply, Seat, Shared, Unfinished};
 pub struct Desk<F: FileSystem, J: Naming> {
     shared: Shared<F>,
     front: Front<J>,
-    // The place of the last sync that was answered.
+    // The place of the last sync or purge that was answered.
     synced: Option<usize>,
     ghost begins: { take (length front) (history_of shared) ≡ front } by { Prim.hlevel props },
     ghost durable: { AreDurableTo synced shared } by { Prim.hlevel props },
+    ghost origin: { J.origin ≡ Some (origin_of shared) } by { Prim.hlevel props },
 }
 
 /// A call's receipt, and the history that ends with the call. None where the book has other calls
@@ -34,11 +36,12 @@ pub struct Noted<J: Naming> {
 
 impl<F: FileSystem, J: Naming> Desk<F, J> {
     ghost use Rattle.raft_shared.specs.Settled.{AreSettled};
-    ghost use Rattle.raft_shared.specs.Shared.{HasRecordedNothing, IsButSeats, RecordsGet, RecordsSync, RecordsWrite, engine_of, limit_of, receipts_of};
+    ghost use Rattle.raft_shared.specs.Shared.{HasRecordedNothing, IsButSeats, RecordsGet, RecordsPurge, RecordsSync, RecordsWrite, engine_of, limit_of, receipts_of, seats_of};
 
     /// An engine that was just shared, with the front of a book that was just opened.
     pub(crate) fn new(shared: Shared<F>, front: Front<J>) -> Desk<F, J>
-        requires { front ≡ [] }
+        requires front { front ≡ [] }
+        requires origin { J.origin ≡ Some (origin_of shared) }
         ensures value { result.shared ≡ shared }
     {
         Desk {
@@ -50,7 +53,12 @@ impl<F: FileSystem, J: Naming> Desk<F, J> {
 
     /// `Shared::seat`.
     pub fn seat(&mut self) -> Result<Seat, Fault>
-        ensures ok { IfOk result (λ seat. receipts_of seat ≡ []) }
+        ensures ok { IfOk result (λ seat. (seat.number ≡ seats_of self.old.shared)
+            × (receipts_of seat ≡ [])
+            × (seats_of self.new.shared ≡ seats_of self.old.shared + 1)) }
+        ensures err { IfErr result (λ fault. (fault ≡ Fault.Range)
+            × (seats_of self.old.shared ≡ 2 ^ 64 - 1)
+            × (seats_of self.new.shared ≡ seats_of self.old.shared)) }
         ensures unchanged { IsButSeats self.old.shared self.new.shared }
     {
         self.shared.seat()
@@ -98,6 +106,27 @@ impl<F: FileSystem, J: Naming> Desk<F, J> {
         Ok(note(&mut self.front, book, number, receipt))
     }
 
+    /// `Shared::purge_expired_files`.
+    pub(crate) fn purge_expired_files(
+        &mut self,
+        book: &Book<J>,
+        seat: &mut Seat,
+        barrier: u64,
+    ) -> Result<Purged, Fault>
+        ensures ok { IfOk result (λ purged. RecordsPurge barrier self.old.shared self.new.shared
+            seat.old seat.new purged.asked.items purged.receipt) }
+        ensures err { OnErr result (HasRecordedNothing self.old.shared self.new.shared seat.old
+            seat.new) }
+        ensures cause { IfErr result (λ e. (e ≡ Fault.TrailFull) ⊎ (e ≡ Fault.Memory)
+            ⊎ (e ≡ Fault.Range)) }
+    {
+        let number = seat.number();
+        let Purged { receipt, asked } = self.shared.purge_expired_files(seat, barrier)?;
+        self.synced = synced_by(self.synced, &receipt);
+        let Noted { receipt, .. } = note(&mut self.front, book, number, receipt);
+        Ok(Purged { receipt, asked })
+    }
+
     /// `Shared::get`.
     pub(crate) fn get(
         &mut self,
@@ -122,10 +151,12 @@ impl<F: FileSystem, J: Naming> Desk<F, J> {
         Ok(note(&mut self.front, book, number, receipt))
     }
 
-    /// Whether a front that somebody saw begins this engine's history: it does, unless the book has
-    /// calls of another engine.
+    /// Whether a front that somebody saw begins this engine's history, so far as it is known: so it is
+    /// of each front that isn't longer than the desk's own. `false` says nothing else; it comes only
+    /// where the book has calls of another engine.
     pub fn has(&self, front: &Front<J>) -> bool
         ensures value { result ≡ true → IsPrefix front.now (history_of self.now.shared) }
+        ensures settled { (result ≡ true) ↔ (length front.now ≤ length self.now.front) }
     {
         if front.len() > self.front.len() {
             return false;
@@ -135,12 +166,15 @@ impl<F: FileSystem, J: Naming> Desk<F, J> {
         true
     }
 
-    /// Whether a witness is of this engine's history, and of a sync that it knows. Then a crash
-    /// from now on leaves what the first calls of the history left, the witness's batch among
-    /// them, and possibly more.
+    /// Whether a witness is of this engine's history, so far as `has` knows it, and of a sync that is
+    /// no later than the last one, or the last purge, that was answered. Then a crash from now on leaves what the first
+    /// calls of the history left, the witness's batch among them, and possibly more.
     pub fn finds(&self, durable: &Durable<J>) -> bool
         ensures value { result ≡ true
             → IsFound durable.now.number durable.now.front self.now.shared }
+        ensures settled { (result ≡ true) ↔ (IsSomeAnd self.now.synced
+            (λ last. durable.now.sync ≤ last)
+            × (length durable.now.front ≤ length self.now.front)) }
     {
         match self.synced {
             Some(last) => durable.sync() <= last && self.has(durable.front()),
@@ -161,7 +195,7 @@ impl<F: FileSystem, J: Naming> Desk<F, J> {
     }
 }
 
-// The place of the last answered sync, after one that has this receipt.
+// The place of the last answered sync or purge, after one that has this receipt.
 fn synced_by(before: Option<usize>, receipt: &Receipt) -> Option<usize>
     ensures value { result ≡ (if is_done (told_by receipt.now).answer then Some receipt.now.number
         else before) }

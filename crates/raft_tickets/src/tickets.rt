@@ -1,15 +1,16 @@
 //! The calls by which threads share a sync.
 ghost use Rattle.std.specs.Prelude.{◌≡◌, ◌⊎◌, [], false, Some, Ok, Err, IfOk, IfErr, IfSome, OnOk, OnErr, slice_get};
-ghost use Rattle.raft_shared.specs.History.{Done, Get, Size, Sync, Write};
+ghost use Rattle.raft_shared.specs.History.{Done, Get, Purge, Size, Sync, Write};
 ghost use Rattle.raft_shared.specs.Words.{reason_of, told_by};
-ghost use Rattle.raft_tickets.specs.Calls.{FailsAs, IsTold, IsToldAt, IsToldNothing, IsWrittenAt, MayBeToldSync, event_by};
+ghost use Rattle.raft_tickets.specs.Calls.{FailsAs, FailsInTurn, IsTold, IsToldAt, IsToldInTurn, IsToldNothing, IsWrittenAt, KeepsRefused, MayBeToldSync, event_by};
+ghost use Rattle.raft_tickets.specs.Origin.{origin_of};
 
 use crate::book::{Book, Naming, Opened};
 use crate::desk::{Desk, Noted};
 use crate::gate::Gate;
 use crate::ticket::{Covered, Durable, Ticket};
 use raft_log_engine::{Fault, FileSystem, LogBatch};
-use raft_shared::{Seat, Shared};
+use raft_shared::{Purged, Seat, Shared};
 use std::sync::{Condvar, Mutex, Wait};
 
 /// A shared engine for threads that wait for the disk together.
@@ -32,7 +33,8 @@ impl<F: FileSystem, J: Naming> Tickets<F, J> {
     /// Of an engine that was just shared. Whoever leads waits for at most `bound` writes that are
     /// under way before it syncs.
     pub fn new(opened: Opened, shared: Shared<F>, bound: u64) -> Tickets<F, J>
-        requires { opened.seen.book ≡ J.book }
+        requires book { opened.seen.book ≡ J.book }
+        requires origin { J.origin ≡ Some (origin_of shared) }
     {
         let (book, front) = opened.named::<J>();
         Tickets {
@@ -48,14 +50,16 @@ impl<F: FileSystem, J: Naming> Tickets<F, J> {
     /// `Shared::seat`.
     pub fn seat<R: Wait>(&self, rt: &R) -> Result<Seat, Fault>
         ensures ok { IfOk result (λ seat. receipts_of seat ≡ []) }
+        ensures cause { IfErr result (λ e. e ≡ Fault.Range) }
     {
         self.desk.lock(rt).seat()
     }
 
     /// Writes a batch without a sync: a ticket for one, where the engine accepted it, which leaves
     /// the batch empty. Else it fails as the engine answered, and as `TrailFull` and `Memory` where
-    /// it wasn't asked. `Layer` is for a book that has calls of another engine.
-    #[tactic(auto, using(crate::proofs::Noting::leaves_empty, crate::proofs::Noting::is_heard, crate::proofs::Noting::is_told_at, crate::proofs::Noting::is_told))]
+    /// it wasn't asked. `Layer` is for a book that has calls of another engine. A refused batch is as
+    /// it was, unless the engine answered `Io` or `Memory`, since it may have failed then.
+    #[tactic(auto, using(crate::proofs::Noting::leaves_empty, crate::proofs::Noting::is_heard, crate::proofs::Noting::is_told_at, crate::proofs::Noting::is_told, crate::proofs::Telling::keeps_refused, crate::proofs::Telling::keeps_same))]
     pub fn write<R: Wait>(
         &self,
         rt: &R,
@@ -70,6 +74,8 @@ impl<F: FileSystem, J: Naming> Tickets<F, J> {
         ensures err { IfErr result (λ e. FailsAs (Write batch.old.items false)
             (Size (Err (reason_of e))) seat.old seat.new e) }
         ensures unchanged { OnErr result (IsToldNothing seat.old seat.new → batch.new ≡ batch.old) }
+        ensures refused { OnErr result (KeepsRefused batch.old.items batch.new.items seat.old
+            seat.new) }
         ensures seat { seat.new.number ≡ seat.old.number }
     {
         self.gate.lock(rt).announce();
@@ -163,7 +169,8 @@ impl<F: FileSystem, J: Naming> Tickets<F, J> {
         self.answered.notify_all();
     }
 
-    /// `write`, and then `wait`.
+    /// `write`, and then `wait`. Where the wait fails the batch is accepted all the same, as the seat
+    /// was told, and empty.
     pub fn write_synced<R: Wait>(
         &self,
         rt: &R,
@@ -173,13 +180,20 @@ impl<F: FileSystem, J: Naming> Tickets<F, J> {
         ensures ok { IfOk result (λ durable. IsWrittenAt durable.number seat.old.number
             batch.old.items durable.size durable.front) }
         ensures rest { OnOk result (batch.new.items ≡ []) }
+        ensures told { IfOk result (λ durable. IsToldInTurn durable.number batch.old.items
+            durable.size seat.old seat.new) }
+        ensures err { IfErr result (FailsInTurn batch.old.items batch.new.items seat.old
+            seat.new) }
+        ensures unchanged { OnErr result (IsToldNothing seat.old seat.new → batch.new ≡ batch.old) }
+        ensures refused { OnErr result (KeepsRefused batch.old.items batch.new.items seat.old
+            seat.new) }
         ensures seat { seat.new.number ≡ seat.old.number }
     {
         let ticket = self.write(rt, seat, batch)?;
         self.wait(rt, seat, ticket)
     }
 
-    /// `Shared::get`, for any thread, with the history up to it.
+    /// `Shared::get`, for any thread, with the history up to it, unless the book has other calls there.
     #[tactic(auto, using(crate::proofs::Noting::is_told_at))]
     pub fn get<R: Wait>(
         &self,
@@ -200,8 +214,32 @@ impl<F: FileSystem, J: Naming> Tickets<F, J> {
         self.desk.lock(rt).get(&self.book, seat, group, key)
     }
 
-    /// The engine and its history, when no thread needs them any more.
-    pub fn into_desk(self) -> Desk<F, J> {
+    /// `Shared::purge_expired_files`, for any thread.
+    #[tactic(auto, using(crate::proofs::Noting::is_told_at))]
+    pub fn purge_expired_files<R: Wait>(
+        &self,
+        rt: &R,
+        seat: &mut Seat,
+        barrier: u64,
+    ) -> Result<Purged, Fault>
+        ensures ok { IfOk result (λ purged. IsToldAt purged.receipt.number (Purge barrier)
+            (told_by purged.receipt).answer seat.old seat.new) }
+        ensures err { OnErr result (IsToldNothing seat.old seat.new) }
+        ensures cause { IfErr result (λ e. (e ≡ Fault.TrailFull) ⊎ (e ≡ Fault.Memory)
+            ⊎ (e ≡ Fault.Range)) }
+        ensures seat { seat.new.number ≡ seat.old.number }
+    {
+        self.desk
+            .lock(rt)
+            .purge_expired_files(&self.book, seat, barrier)
+    }
+
+    /// The engine and its history, when no thread needs them any more. It comes from where the one came
+    /// from that was handed in: it has its settings and what its opening found, and its history begins
+    /// with what that held.
+    pub fn into_desk(self) -> Desk<F, J>
+        ensures origin { J.origin ≡ Some (origin_of result.shared) }
+    {
         let Tickets { desk, .. } = self;
         desk.into_inner()
     }

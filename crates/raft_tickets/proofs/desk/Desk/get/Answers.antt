@@ -5,6 +5,7 @@ use Rattle.raft_shared.specs.declared.call.Receipt.{Receipt}
 use Rattle.raft_tickets.specs.Calls.{event_by}
 use Rattle.raft_tickets.proofs.Durability.{durable_so, get_keeps}
 use Rattle.raft_tickets.proofs.Noting.{begins_so, front_begins, front_ends}
+use Rattle.raft_tickets.proofs.Origins.{origin_so}
 use Rattle.raft_tickets.proofs.desk.Desk.get.Goals as goal
 
 pub returns-clause-ok : goal.returns-clause-ok
@@ -25,6 +26,7 @@ invariant_of-self-2 g c =
     record {
       begins = front_begins _ _ _ _ _ _ _ ok.recorded old.front old.begins _ _ (rw c.number-number.ensures.value at c.note.ensures.some) c.note.ensures.none;
       durable = get_keeps _ _ _ _ _ _ _ _ old.durable ok;
+      origin = origin_so _ _ _ old.origin ok.recorded.same ok.engine;
     }
 
 pub invariant_of-self : goal.invariant_of-self
@@ -34,4 +36,5 @@ invariant_of-self g c =
     record {
       begins = begins_so _ _ old.front none.history old.begins;
       durable = durable_so _ old.shared c.get.new.self old.durable none.same.base none.history none.engine;
+      origin = origin_so _ _ _ old.origin none.same none.engine;
     }

@@ -4,6 +4,7 @@ use Rattle.raft_tickets.proofs.desk.Desk.new.Goals as goal
 
 pub invariant_of-result : goal.invariant_of-result
 invariant_of-result g c = record {
-  begins = rw c.requires refl;
+  begins = rw c.requires.front refl;
   durable = none_durable _;
+  origin = c.requires.origin;
 }

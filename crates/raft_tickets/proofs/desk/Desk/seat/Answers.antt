@@ -1,5 +1,6 @@
 use Rattle.raft_tickets.proofs.Durability.{durable_so}
 use Rattle.raft_tickets.proofs.Noting.{begins_so}
+use Rattle.raft_tickets.proofs.Origins.{origin_seated}
 use Rattle.raft_tickets.proofs.desk.Desk.seat.Goals as goal
 
 pub invariant_of-self : goal.invariant_of-self
@@ -9,4 +10,5 @@ invariant_of-self g c =
     record {
       begins = begins_so _ _ old.front same.history old.begins;
       durable = durable_so _ old.shared c.seat.new.self old.durable same.base same.history same.engine;
+      origin = origin_seated _ _ _ old.origin same;
     }
