@@ -78,7 +78,7 @@ static CASES: [Case; 20] = [
         &["put", "1", "b", "c", "--spill", "second"],
         Some(0),
         &[],
-        true,
+        false,
     ),
     Case(
         GAP,
