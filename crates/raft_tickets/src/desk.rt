@@ -2,6 +2,7 @@
 ghost use Rattle.std.specs.Prelude.{◌≡◌, ◌⊎◌, ◌↔◌, ◌≤◌, ◌+◌, ◌-◌, ◌^◌, ◌++◌, ◌∷◌, [], false, true, Err, length, map, take, OnErr, IfOk, IfErr, IfNone, IfSome, IsOk, IsSomeAnd, Some, slice_get, if◌then◌else◌};
 ghost use Rattle.std.proofs.Props.{props};
 ghost use mathlib.Core.List.{IsPrefix};
+ghost use Rattle.raft_base.specs.Fault.{fault_code};
 ghost use Rattle.raft_shared.specs.Shared.{history_of};
 ghost use Rattle.raft_shared.specs.Words.{event_of, told_by};
 ghost use Rattle.raft_tickets.specs.Calls.{event_by, is_done};
@@ -60,6 +61,7 @@ impl<F: FileSystem, J: Naming> Desk<F, J> {
             × (seats_of self.old.shared ≡ 2 ^ 64 - 1)
             × (seats_of self.new.shared ≡ seats_of self.old.shared)) }
         ensures unchanged { IsButSeats self.old.shared self.new.shared }
+        ensures others { (self.new.front ≡ self.old.front) × (self.new.synced ≡ self.old.synced) }
     {
         self.shared.seat()
     }
@@ -189,6 +191,7 @@ impl<F: FileSystem, J: Naming> Desk<F, J> {
         ensures err { IfErr result (λ back. (back.engine ≡ engine_of self.shared)
             × (map event_of back.trail.items ≡ history_of self.shared) × (back.seats ≡ seats)) }
         ensures settled { IsOk result ↔ AreSettled seats.items (history_of self.shared) }
+        ensures cause { IfErr result (λ back. fault_code back.fault ≡ 1) }
     {
         let Desk { shared, .. } = self;
         shared.finish(seats)
