@@ -180,15 +180,18 @@ int raftlog_close(raftlog *log);
 size_t raftlog_message(raftlog *log, char *text, size_t room);
 
 /* What a log did since it was opened, in rounds that are over. The mean number of changes that share a
- * round is changes / rounds, and that of synced ones that share a sync synced_changes / syncs. */
+ * round is changes / rounds, and a sync takes sync_ns / syncs. Where nothing is purged, and no file is
+ * full, synced_changes / syncs share a sync: a purge and a next file have syncs of their own. It may
+ * grow at its end from one RAFTLOG_VERSION to the next: a library goes with its own header. */
 typedef struct {
     uint64_t rounds;
     uint64_t changes;        /* in them: writes, syncs, compactions, purges */
     uint64_t synced_changes; /* of these, those that asked for a sync and were done */
     uint64_t largest_round;  /* the most changes of a round */
-    uint64_t syncs;          /* of log files */
+    uint64_t syncs;          /* of log files, whoever asked for them */
     uint64_t bytes;          /* that were written to log files */
-    uint64_t sync_ns;        /* that rounds with a sync were at the disk, in nanoseconds */
+    uint64_t sync_ns;        /* that these syncs took (fdatasync), in nanoseconds */
+    uint64_t batches;        /* of the changes, writes that were done */
 } raftlog_counts;
 
 /* Each number by itself is that of a moment of the call. */
