@@ -32,13 +32,15 @@
  * one that asked for no sync and one that was refused: the next opening finds all that was answered
  * before, and of this round none, the first ones or all. Later calls are answered RAFTLOG_FAILED.
  *
- * Reads don't wait for the disk. A read sees each change that was answered before it began. It may see
- * one that isn't answered yet, whole; then it is answered once that change's round is over, and as
- * RAFTLOG_FAILED where that failed: so what a read tells of a synced write survives a crash as the
- * write's own answer does. It waits only where the round changes its group, or one of the few that share
- * its place in a table of 4096 (`raftlog_groups`: any group), and for one round at most.
- *   A purge that writes more than RAFTLOG_PURGE_BYTES carries the first of them out before it goes on,
- * so that they needn't stand in memory: reads that begin then wait until it is over.
+ * Reads. A read sees each change that was answered before it began. It may see one that isn't answered
+ * yet, whole; then it is answered once that change's round is over, and as RAFTLOG_FAILED where that
+ * failed: so what a read tells of a synced write survives a crash as the write's own answer does. For
+ * changes of files and a sync it waits only where the round changes its group, or one of the few that
+ * share its place in a table of 4096 (`raftlog_groups`: any group), and for one round at most.
+ *   But calls go to the log itself in turn, and there a read of any group waits until a purge has moved
+ * all that it moves (it reads cold entries from the disk, and what it writes but for the last
+ * RAFTLOG_PURGE_BYTES is carried out meanwhile, so that it needn't stand in memory), and for a read of
+ * entries that aren't in memory. `raftlog_must_rewrite_append_groups` lets others in between its calls.
  *
  * What is proved, of the functions behind these (crates/raft_c): of each code, what the log has done and
  * what it holds then; of a failure, why it comes; and that at each moment inside a call a crash leaves

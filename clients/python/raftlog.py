@@ -153,8 +153,8 @@ class Engine:
     """`folder` None: a log in memory. The settings are TOML. A context manager; it is closed with a sync. `watch` is told how
     far the opening of a folder is, `watch(done, all)` with each file: of so many bytes, so many are read; it makes no call.
 
-    Threads may share it, but for `close`: writers that come at once share a sync, and reads don't wait for the disk
-    (raftlog.h, "Rounds")."""
+    Threads may share it, but for `close`: writers that come at once share a sync, and of these a read waits only for
+    those that change its group (raftlog.h, "Rounds")."""
 
     def __init__(self, folder=None, settings="", watch=None):
         text, self._log = ctypes.create_string_buffer(512), c_void_p()

@@ -121,7 +121,7 @@ type Entry struct {
 type Pair struct{ Key, Value []byte }
 
 // An Engine is an open log. It may be used by many goroutines: writers that come at once share a sync,
-// and reads don't wait for the disk (raftlog.h, "Rounds").
+// and of these a read waits only for those that change its group (raftlog.h, "Rounds").
 type Engine struct {
 	mutex sync.RWMutex // held by each call to read, and by Close to write
 	log   *C.raftlog

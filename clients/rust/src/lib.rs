@@ -306,9 +306,9 @@ pub fn survive_bus_errors() -> Result<()> {
     }
 }
 
-/// An open log. It may be used by many threads: writers that come at once share a sync, and reads don't
-/// wait for the disk (`raftlog.h`, "Rounds"). It is closed, with a sync, when it is dropped; `close` tells
-/// whether that was done.
+/// An open log. It may be used by many threads: writers that come at once share a sync, and of these a
+/// read waits only for those that change its group (`raftlog.h`, "Rounds"). It is closed, with a sync,
+/// when it is dropped; `close` tells whether that was done.
 pub struct Engine {
     log: *mut sys::raftlog,
 }
