@@ -286,11 +286,11 @@ static void come_late(const char *folder) {
     drop(folder);
 }
 
-/* A purge is one call of the proved part, and a read of any group waits while it runs, not while its
- * sync does. */
+/* A read of any group waits while a purge is inside the proved part, and not while its sync runs. One
+ * of the Append queue goes there several times. */
 static void read_beside_purge(const char *folder) {
-    static struct call calls[3];
-    char kinds[] = "p o o";
+    static struct call calls[4];
+    char kinds[] = "p o o o";
     raftlog *log = open_at(folder);
     struct call put = {.log = log, .group = OTHER, .kind = 'w', .size = 1};
     make_call(&put);
@@ -307,8 +307,14 @@ static void read_beside_purge(const char *folder) {
     end(&calls[1]);
     begin(&calls[2]);
     end(&calls[2]);
-    CHECK(!atomic_load(&calls[0].has_ended));
+    faults_hold_orders(true);
     faults_hold_syncs(false);
+    faults_await_order();
+    begin(&calls[3]);
+    settle(&calls[3]);
+    CHECK(!atomic_load(&calls[3].has_ended) && !atomic_load(&calls[0].has_ended));
+    faults_hold_orders(false);
+    end(&calls[3]);
     end(&calls[0]);
     for (int i = 0; i < count; i++) CHECK(!calls[i].code);
     CHECK(!raftlog_close(log));

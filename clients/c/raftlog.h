@@ -37,10 +37,11 @@
  * failed: so what a read tells of a synced write survives a crash as the write's own answer does. For
  * changes of files and a sync it waits only where the round changes its group, or one of the few that
  * share its place in a table of 4096 (`raftlog_groups`: any group), and for one round at most.
- *   But calls go to the log itself in turn, and there a read of any group waits until a purge has moved
- * all that it moves (it reads cold entries from the disk, and what it writes but for the last
- * RAFTLOG_PURGE_BYTES is carried out meanwhile, so that it needn't stand in memory), and for a read of
- * entries that aren't in memory. `raftlog_must_rewrite_append_groups` lets others in between its calls.
+ *   But calls go to the log itself in turn, and there a read of any group waits for a read of entries that
+ * aren't in memory, and until a purge has moved all that it moves (it reads cold entries from the disk,
+ * and what it writes but for the last RAFTLOG_PURGE_BYTES is carried out meanwhile, so that it needn't
+ * stand in memory). `raftlog_must_rewrite_append_queue` lets reads in after each RAFTLOG_MOVED_BYTES, and
+ * where one group has more after that group; `raftlog_must_rewrite_append_groups` lets in writes too.
  *
  * What is proved, of the functions behind these (crates/raft_c): of each code, what the log has done and
  * what it holds then; of a failure, why it comes; and that at each moment inside a call a crash leaves
@@ -102,11 +103,13 @@ enum {
     RAFTLOG_FOLDER = 32
 };
 
-/* The most that a round takes, and that a purge writes before it waits for the disk. */
+/* The most that a round takes, that a purge writes before it waits for the disk, and that one of the
+ * Append queue moves before it lets reads in. */
 enum {
     RAFTLOG_ROUND_CHANGES = 256,
     RAFTLOG_ROUND_BYTES = 1 << 20,
-    RAFTLOG_PURGE_BYTES = 1 << 26
+    RAFTLOG_PURGE_BYTES = 1 << 26,
+    RAFTLOG_MOVED_BYTES = 1 << 22
 };
 
 typedef struct raftlog raftlog;
@@ -290,7 +293,8 @@ int raftlog_purge_expired_files(raftlog *log, raftlog_bytes *groups);
 /* Whatever their size, of which they tell how many files of a queue are gone (`count` may be NULL): the first writes what
  * stands in the log files of the Append queue to the Rewrite queue, and drops them; the second writes what stands in those
  * of the Rewrite queue to a new one, and drops them; the third drops the files in front in which nothing stands any more,
- * of both queues, and counts those of the Append queue. A dropped file is deleted, or kept to be used again. */
+ * of both queues, and counts those of the Append queue. A dropped file is deleted, or kept to be used again.
+ * The first counts one more that it went on to meanwhile: it is short calls, as below, and then a whole one. */
 int raftlog_must_rewrite_append_queue(raftlog *log, uint64_t *count);
 int raftlog_must_rewrite_rewrite_queue(raftlog *log, uint64_t *count);
 int raftlog_must_purge_all_stale(raftlog *log, uint64_t *count);

@@ -10,6 +10,11 @@
 #include <sys/syscall.h>
 #include <unistd.h>
 
+/* Bytes that a purge of the Append queue moves before it lets reads in; less in tests. */
+#ifndef ROUNDS_MOVED
+#define ROUNDS_MOVED RAFTLOG_MOVED_BYTES
+#endif
+
 enum { WAITS, LEADS, IS_ANSWERED };
 
 /* Whoever comes behind this finds a closed log. */
@@ -251,16 +256,43 @@ static void carry_out_many(raftlog *log, struct round *round) {
     if (!is_synced || parts_obey(log)) give_up(log, round);
 }
 
+/* Hands a change over that is a round of its own, and carries its orders out: false where one fails,
+ * which fails the log. */
+static bool carry_out_one(raftlog *log, struct parts_change *change) {
+    hand_over(log, change, change->sync);
+    if (parts_obey(log)) return false;
+    if (parts_is_purge(change)) heap_catch_up(&log->heap, &log->behind);
+    return true;
+}
+
+/* What a purge of the Append queue moves is moved in short calls before it, so that reads come between
+ * them: the purge itself finds little. It ends where one is refused. */
+static bool move_ahead(raftlog *log, struct parts_change *purge) {
+    struct parts_change some = {.found = 0, .found_too = UINT64_MAX};
+    bool is_done;
+    do {
+        uint64_t from = some.found, watermark = some.found_too;
+        some = (struct parts_change){.kind = PARTS_REWRITE_GROUPS,
+                                     .watermark = watermark,
+                                     .from = from,
+                                     .budget = ROUNDS_MOVED};
+        is_done = carry_out_one(log, &some);
+    } while (is_done && !some.code && some.found);
+    purge->code = some.code;
+    purge->text = some.text;
+    return is_done;
+}
+
 static inline void carry_out(raftlog *log, struct round *round) {
     struct parts_change *first = round->first;
     if (*log->broken) {
         for (struct parts_change *at = first; at; at = after(round, at))
             fail(at, RAFTLOG_FAILED, log->broken);
     } else if (!first->older || is_alone(first)) {
-        hand_over(log, first, first->sync);
+        bool is_done = first->kind != PARTS_REWRITE_APPEND || move_ahead(log, first);
+        if (is_done && !first->code) is_done = carry_out_one(log, first);
         note_done(round, first);
-        if (parts_obey(log)) give_up(log, round);
-        else if (parts_is_purge(first)) heap_catch_up(&log->heap, &log->behind);
+        if (!is_done) give_up(log, round);
     } else {
         carry_out_many(log, round);
     }
