@@ -28,9 +28,10 @@
  * batch that is longer; a purge is a round of its own.
  *   A write without a sync that comes while a sync runs waits for its end, since the changes of files
  * are made in turn: a crash leaves no write without those before it.
- *   Where a change of a file or the sync fails, each change of the round is answered RAFTLOG_IO, also
- * one that asked for no sync and one that was refused: the next opening finds all that was answered
- * before, and of this round none, the first ones or all. Later calls are answered RAFTLOG_FAILED.
+ *   Where a change of a file or the sync fails, or memory for one is wanting, each change of the round is
+ * answered RAFTLOG_IO, also one that asked for no sync and one that was refused: the next opening finds
+ * all that was answered before, and of this round none, the first ones or all. Later calls are answered
+ * RAFTLOG_FAILED.
  *
  * Reads. A read sees each change that was answered before it began. It may see one that isn't answered
  * yet, whole; then it is answered once that change's round is over, and as RAFTLOG_FAILED where that
