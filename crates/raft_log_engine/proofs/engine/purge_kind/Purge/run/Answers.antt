@@ -37,11 +37,11 @@ returns-in-RewriteAppend-clause-files g c =
 -- One of the Rewrite queue is, whatever marks are owed.
 
 pub returns-in-RewriteRewrite-clause-log : goal.returns-in-RewriteRewrite-clause-log
-returns-in-RewriteRewrite-clause-log g c = still_at (λ _. owed_of c.args.owed.now) c.rewrite_rewrite_queue.ensures.purges.log
+returns-in-RewriteRewrite-clause-log g c = still_at (λ _. owed_of c.args.owed.now) c.rewrite_rewrite_queue.ensures.renews.purges.log
 
 pub returns-in-RewriteRewrite-clause-files : goal.returns-in-RewriteRewrite-clause-files
 returns-in-RewriteRewrite-clause-files g c =
-    let same = c.rewrite_rewrite_queue.ensures.others Append append_differs in
+    let same = c.rewrite_rewrite_queue.ensures.renews.others Append append_differs in
     rw c.in-RewriteRewrite.is (both_ok c.rewrite_rewrite_queue.result _ _ _ (λ gone kept. (record { gone = gone; kept = kept }, same)) c.rewrite_rewrite_queue.ensures.span c.rewrite_rewrite_queue.ensures.kept)
 
 pub returns-in-DropStale-clause-files : goal.returns-in-DropStale-clause-files
@@ -49,7 +49,24 @@ returns-in-DropStale-clause-files g c =
     let d = c.args.pipes.now in
     let d' = c.purge_all_stale.new.pipes in
     let done = c.purge_all_stale.ensures in
-    rw c.in-DropStale.is (stale_files c.purge_all_stale.result c.args.groups.now.together c.args.tables.now d.append d.rewrite d'.append d'.rewrite done.rotated done.span done.old)
+    rw c.in-DropStale.is (stale_files c.purge_all_stale.result c.args.groups.now.together c.args.tables.now d.append d.rewrite d'.append d'.rewrite (on_ok_weaker c.purge_all_stale.result (λ left. left.rotated) done.purges.files) (on_ok_weaker c.purge_all_stale.result (λ left. left.span) done.purges.files) done.old)
+
+-- Of a relation that is a field of another one.
+
+pub returns-in-RewriteRewrite-clause-value : goal.returns-in-RewriteRewrite-clause-value
+returns-in-RewriteRewrite-clause-value g c = rw c.in-RewriteRewrite.is c.rewrite_rewrite_queue.ensures.renews.purges.value
+
+pub returns-in-RewriteRewrite-clause-holds : goal.returns-in-RewriteRewrite-clause-holds
+returns-in-RewriteRewrite-clause-holds g c = c.rewrite_rewrite_queue.ensures.renews.purges.holds
+
+pub returns-in-RewriteRewrite-clause-together : goal.returns-in-RewriteRewrite-clause-together
+returns-in-RewriteRewrite-clause-together g c = c.rewrite_rewrite_queue.ensures.renews.together
+
+pub returns-in-DropStale-clause-log : goal.returns-in-DropStale-clause-log
+returns-in-DropStale-clause-log g c = c.purge_all_stale.ensures.purges.drops.log
+
+pub returns-in-DropStale-clause-value : goal.returns-in-DropStale-clause-value
+returns-in-DropStale-clause-value g c = rw c.in-DropStale.is c.purge_all_stale.ensures.purges.drops.value
 
 -- What each leaves where it is refused.
 
@@ -57,10 +74,10 @@ pub returns-in-RewriteAppend-clause-front : goal.returns-in-RewriteAppend-clause
 returns-in-RewriteAppend-clause-front g c = rw c.in-RewriteAppend.is c.rewrite_append_queue.ensures.purges.front
 
 pub returns-in-RewriteRewrite-clause-front : goal.returns-in-RewriteRewrite-clause-front
-returns-in-RewriteRewrite-clause-front g c = rw c.in-RewriteRewrite.is c.rewrite_rewrite_queue.ensures.purges.front
+returns-in-RewriteRewrite-clause-front g c = rw c.in-RewriteRewrite.is c.rewrite_rewrite_queue.ensures.renews.purges.front
 
 pub returns-in-DropStale-clause-front : goal.returns-in-DropStale-clause-front
-returns-in-DropStale-clause-front g c = rw c.in-DropStale.is c.purge_all_stale.ensures.front
+returns-in-DropStale-clause-front g c = rw c.in-DropStale.is c.purge_all_stale.ensures.purges.drops.front
 
 pub returns-in-RewriteAppend-clause-first : goal.returns-in-RewriteAppend-clause-first
 returns-in-RewriteAppend-clause-first g c = rw c.in-RewriteAppend.is (on_err_of c.rewrite_append_queue.result _ c.rewrite_append_queue.ensures.first)
@@ -69,13 +86,13 @@ pub returns-in-RewriteRewrite-clause-first : goal.returns-in-RewriteRewrite-clau
 returns-in-RewriteRewrite-clause-first g c = rw c.in-RewriteRewrite.is c.rewrite_rewrite_queue.ensures.first
 
 pub returns-in-DropStale-clause-first : goal.returns-in-DropStale-clause-first
-returns-in-DropStale-clause-first g c = rw c.in-DropStale.is (on_err_of c.purge_all_stale.result _ c.purge_all_stale.ensures.first)
+returns-in-DropStale-clause-first g c = rw c.in-DropStale.is (on_err_of c.purge_all_stale.result _ c.purge_all_stale.ensures.purges.first)
 
 pub returns-in-RewriteAppend-clause-append : goal.returns-in-RewriteAppend-clause-append
 returns-in-RewriteAppend-clause-append g c = λ is. absurd (let clash = sym c.in-RewriteAppend.is ∙ is in cc)
 
 pub returns-in-RewriteRewrite-clause-append : goal.returns-in-RewriteRewrite-clause-append
-returns-in-RewriteRewrite-clause-append g c = λ is. c.rewrite_rewrite_queue.ensures.others Append append_differs
+returns-in-RewriteRewrite-clause-append g c = λ is. c.rewrite_rewrite_queue.ensures.renews.others Append append_differs
 
 pub returns-in-DropStale-clause-append : goal.returns-in-DropStale-clause-append
 returns-in-DropStale-clause-append g c = λ is. absurd (let clash = sym c.in-DropStale.is ∙ is in cc)
@@ -117,7 +134,7 @@ returns-in-RewriteRewrite-clause-cause g c =
     let U : Fault → Type 0 = λ e. HaveOwedNoRecord (tables_of c.rewrite_rewrite_queue.new.tables) owed e ⊎ IsUnfitWhere Q e in
     let groups = c.rewrite_rewrite_queue.new.groups in
     let n' = g.F.FileSystem.directory c.rewrite_rewrite_queue.new.file_system in
-    rw c.in-RewriteRewrite.is (IfErr-weaker c.rewrite_rewrite_queue.result _ _ (atomic_weaker d c.rewrite_rewrite_queue.new.pipes n' (g.F.FileSystem.refusals_of c.args.file_system.now) (g.F.FileSystem.refusals_of c.rewrite_rewrite_queue.new.file_system) (λ e. HasNoId groups e ⊎ IsUnfitWhere P e) (λ e. HasNoId groups e ⊎ U e) (or_unfit (HasNoId groups) (IsUnfitWhere P) U (λ e unfit. inr (unfit_where P Q (λ v held. (owed, held)) e unfit)))) c.rewrite_rewrite_queue.ensures.purges.cause)
+    rw c.in-RewriteRewrite.is (IfErr-weaker c.rewrite_rewrite_queue.result _ _ (atomic_weaker d c.rewrite_rewrite_queue.new.pipes n' (g.F.FileSystem.refusals_of c.args.file_system.now) (g.F.FileSystem.refusals_of c.rewrite_rewrite_queue.new.file_system) (λ e. HasNoId groups e ⊎ IsUnfitWhere P e) (λ e. HasNoId groups e ⊎ U e) (or_unfit (HasNoId groups) (IsUnfitWhere P) U (λ e unfit. inr (unfit_where P Q (λ v held. (owed, held)) e unfit)))) c.rewrite_rewrite_queue.ensures.renews.purges.cause)
 
 pub returns-in-DropStale-clause-cause : goal.returns-in-DropStale-clause-cause
 returns-in-DropStale-clause-cause g c =
@@ -126,7 +143,7 @@ returns-in-DropStale-clause-cause g c =
     let owed = owed_of c.args.owed.now in
     let Q = IsLog (log_of d t owed (known_groups c.args.groups.now) (g.F.FileSystem.directory c.args.file_system.now)) in
     let M = HaveOwedNoRecord t owed in
-    rw c.in-DropStale.is (IfErr-weaker c.purge_all_stale.result _ _ (refusal_weaker d c.purge_all_stale.new.pipes (g.F.FileSystem.directory c.purge_all_stale.new.file_system) (g.F.FileSystem.refusals_of c.args.file_system.now) (g.F.FileSystem.refusals_of c.purge_all_stale.new.file_system) M (λ e. M e ⊎ IsUnfitWhere Q e) (λ e none. inl none)) c.purge_all_stale.ensures.cause)
+    rw c.in-DropStale.is (IfErr-weaker c.purge_all_stale.result _ _ (refusal_weaker d c.purge_all_stale.new.pipes (g.F.FileSystem.directory c.purge_all_stale.new.file_system) (g.F.FileSystem.refusals_of c.args.file_system.now) (g.F.FileSystem.refusals_of c.purge_all_stale.new.file_system) M (λ e. M e ⊎ IsUnfitWhere Q e) (λ e none. inl none)) c.purge_all_stale.ensures.purges.drops.cause)
 
 pub rewrite_append_queue-requires-clause-some : goal.rewrite_append_queue-requires-clause-some
 rewrite_append_queue-requires-clause-some g c = λ κs within. ∥∥₁_map c.requires.some (λ x. (known_groups c.args.groups.now, x.0, x.1))
@@ -161,7 +178,7 @@ returns-in-DropStale-clause-holds g c =
     let met = known_groups c.args.groups.now in
     let a = log_of c.args.pipes.now t (owed_of c.args.owed.now) met (g.F.FileSystem.directory c.args.file_system.now) in
     let b = log_of c.purge_all_stale.new.pipes t (owed_of c.purge_all_stale.new.owed) met (g.F.FileSystem.directory c.purge_all_stale.new.file_system) in
-    if_stands_map c.purge_all_stale.result (Unit {0} → KeepsLog a b) _ (λ keeps. ∥∥₁_elim c.requires.some (hlevel props) (λ x. rest_log a b c.args.cache.now (keeps tt) x.0 x.1 c.requires.holds)) c.purge_all_stale.ensures.log.now
+    if_stands_map c.purge_all_stale.result (Unit {0} → KeepsLog a b) _ (λ keeps. ∥∥₁_elim c.requires.some (hlevel props) (λ x. rest_log a b c.args.cache.now (keeps tt) x.0 x.1 c.requires.holds)) c.purge_all_stale.ensures.purges.drops.log.now
 
 pub returns-in-DropExpired-clause-first : goal.returns-in-DropExpired-clause-first
 returns-in-DropExpired-clause-first g c = rw c.in-DropExpired.is (on_err_of c.purge.result _ c.purge.ensures.first)
@@ -200,10 +217,10 @@ pub returns-in-RewriteAppend-clause-cut : goal.returns-in-RewriteAppend-clause-c
 returns-in-RewriteAppend-clause-cut g c = rw c.in-RewriteAppend.is (on_ok_weaker c.rewrite_append_queue.result (λ cut none. cut 0 (none_cut none)) c.rewrite_append_queue.ensures.purges.cut)
 
 pub returns-in-RewriteRewrite-clause-cut : goal.returns-in-RewriteRewrite-clause-cut
-returns-in-RewriteRewrite-clause-cut g c = rw c.in-RewriteRewrite.is (on_ok_weaker c.rewrite_rewrite_queue.result (λ cut none. cut 0 (none_cut none)) c.rewrite_rewrite_queue.ensures.purges.cut)
+returns-in-RewriteRewrite-clause-cut g c = rw c.in-RewriteRewrite.is (on_ok_weaker c.rewrite_rewrite_queue.result (λ cut none. cut 0 (none_cut none)) c.rewrite_rewrite_queue.ensures.renews.purges.cut)
 
 pub returns-in-DropStale-clause-cut : goal.returns-in-DropStale-clause-cut
-returns-in-DropStale-clause-cut g c = rw c.in-DropStale.is (on_ok_weaker c.purge_all_stale.result (λ cut none. cut 0 (none_cut none)) c.purge_all_stale.ensures.cut)
+returns-in-DropStale-clause-cut g c = rw c.in-DropStale.is (on_ok_weaker c.purge_all_stale.result (λ cut none. cut 0 (none_cut none)) c.purge_all_stale.ensures.purges.drops.cut)
 
 pub returns-in-DropExpired-clause-cut : goal.returns-in-DropExpired-clause-cut
 returns-in-DropExpired-clause-cut g c = rw c.in-DropExpired.is (on_ok_weaker c.purge.result (λ cut none. cut 0 (none_cut none)) c.purge.ensures.purges.cut)

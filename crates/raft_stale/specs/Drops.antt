@@ -1,0 +1,96 @@
+-- What a call that drops what is stale makes of the log, and leaves of the queues' files.
+use Rattle.std.specs.Prelude.{◌≡◌, ◌+◌, ◌<◌, ◌≤◌, ℕ, IfErr, IfOk, List, None, OnErr, OnOk, Option, Result, max, suc}
+use Rattle.raft_base.specs.declared.errors.Fault.{Fault}
+use Rattle.raft_base.specs.declared.pipe_log.LogQueue.{LogQueue}
+use Rattle.raft_base.specs.declared.pipe_log.LogQueue.TheVariants.{Append}
+use Rattle.raft_env.specs.Directory.{Directory}
+use Rattle.raft_env.specs.Refusal.{Refusals}
+use Rattle.raft_listeners.specs.declared.event_sink.EventSink.{Ghosts}
+use Rattle.raft_listeners.specs.declared.purge_events.PurgeEvents.{PurgeEvents}
+use Rattle.raft_pipes.specs.PipeState.{PipeState, last_seq}
+use Rattle.raft_queues.specs.Dual.{DualState, IsDualReadRefusal, KeepsOtherPipe, StandSideBySide, pipe_of}
+use Rattle.raft_index_laws.specs.Standing.{OwesNothing}
+use Rattle.raft_tables.specs.FirstFiles.{first_of_tables}
+use Rattle.raft_tables.specs.Owed.{Owed}
+use Rattle.raft_tables.specs.Tables.{tables_of}
+use Rattle.raft_tables.specs.declared.memtables.MemTables.{MemTables}
+use Rattle.raft_crash_laws.specs.Index.{LogIndex}
+use Rattle.raft_crash_laws.specs.Log.{KnownGroups}
+use Rattle.raft_purge_steps.specs.Cut.{KeepsCut}
+use Rattle.raft_purge_steps.specs.Faults.{HaveOwedNoRecord, IsPurgeRefusal}
+use Rattle.raft_purge_steps.specs.Keeping.{KeepsRewriting, StillHolds}
+use Rattle.raft_purge_steps.specs.Scope.{AreAllEmptied}
+use Rattle.raft_purge_steps.specs.Steps.{by_groups}
+use Rattle.raft_purge_steps.specs.declared.fault.StepFault.{StepFault}
+use Rattle.raft_stale.specs.Dropping.{IfFails, KeepsFront}
+use Rattle.raft_stale.specs.Scope.{HasLostFront, first_left, up_to_barrier}
+
+-- some of a queue's first files go: how many. It ends with the same file, and `Begins` says where it
+-- begins; the other queue's pipe is the same
+pub record LosesFiles {E : Type 0} (queue : LogQueue) (Begins : PipeState → PipeState → Type 0)
+    (result : Result ℕ E) (d d' : DualState) : Type 0 where
+  pub others : KeepsOtherPipe queue d d'
+  pub value : IfOk result (λ count. (pipe_of queue d).first + count ≡ (pipe_of queue d').first)
+  pub first : Begins (pipe_of queue d) (pipe_of queue d')
+  pub last : last_seq (pipe_of queue d') ≡ last_seq (pipe_of queue d)
+
+-- .. of synced queues: however that ends the pipes stand side by side
+pub record LosesSynced (queue : LogQueue) (Begins : PipeState → PipeState → Type 0)
+    (result : Result ℕ Fault) (d d' : DualState) (n' : Directory) (old new : Refusals)
+    : Type 0 where
+  pub files : LosesFiles queue Begins result d d'
+  pub side : StandSideBySide d' n'
+  pub cause : IfErr result (IsDualReadRefusal d old new)
+
+-- the Append queue ends with the same file. It begins with the first one in which something stands, or
+-- with the barrier if that comes before; so behind files in which nothing may move
+pub record HasFrontLeft (barrier : Option ℕ) (m : MemTables) (p p' : PipeState) : Type 0 where
+  pub span : p'.first ≡ first_left barrier p m
+  pub last : last_seq p' ≡ last_seq p
+  pub emptied :
+      (watermark : ℕ) → watermark < last_seq p → AreAllEmptied watermark (tables_of m)
+      → up_to_barrier barrier (suc watermark) ≤ p'.first
+
+-- the Append queue went on to a next file, and begins with the first one in which something stands, or
+-- where it began if that is later; no mark is owed
+pub record HasPurgedFront (m : MemTables) (owed' : Owed) (p p' : PipeState) : Type 0 where
+  pub span : p'.first ≡ max p.first (first_of_tables Append (suc (last_seq p)) m)
+  pub rotated : last_seq p' ≡ suc (last_seq p)
+  pub owed : OwesNothing owed'
+
+-- on files of which these are the directory, its moments and the refusals of calls
+module _ {F : Type 0} (directory : F → Directory) (moments : F → List Directory)
+    (refusals_of : F → Refusals) where
+  -- marks that are owed are written to the Rewrite queue: the log is kept, whichever of these stand for
+  -- it in memory. Where that fails as many are owed as before
+  pub record WritesMarks {T X L : Type 0} {g : Ghosts L} (result : Result T StepFault)
+      (i i' : X → LogIndex) (owed owed' : Owed) (d d' : DualState) (old new : F)
+      (events events' : PurgeEvents L g) : Type 0 where
+    pub log : StillHolds directory moments refusals_of result i i' d d' old new events events'
+    pub keeps : KeepsRewriting result d d' events events'
+    pub cut : OnOk result (KeepsCut events events')
+    pub err : OnErr result (owed' ≡ owed)
+
+  -- files of a queue in which nothing stands are dropped: how many; where the log is in doubt it begins
+  -- as before. The log is kept, whichever of these stand for it in memory, and the batches that were
+  -- written are cut. `IsUnfit` says why one can't be written
+  pub record Drops {X L : Type 0} {g : Ghosts L} (queue : LogQueue) (IsUnfit : Fault → Type 0)
+      (result : Result ℕ StepFault) (i i' : X → LogIndex) (d d' : DualState) (old new : F)
+      (events events' : PurgeEvents L g) : Type 0 where
+    pub log : StillHolds directory moments refusals_of result i i' d d' old new events events'
+    pub value : IfOk result (λ count. (pipe_of queue d).first + count ≡ (pipe_of queue d').first)
+    pub front : IfFails result (KeepsFront queue d d')
+    pub cut : OnOk result (KeepsCut events events')
+    pub cause : IfErr result (IsPurgeRefusal d d' (directory new) (refusals_of old)
+        (refusals_of new) IsUnfit)
+
+  -- .. of the Append queue, behind a rotation, with all marks that are owed written; whichever of these
+  -- groups are known. However it ends, no file is dropped from the first one on in which something stands
+  pub record PurgesFront {X L : Type 0} {g : Ghosts L} (m : MemTables) (known : X → KnownGroups)
+      (result : Result ℕ StepFault) (owed owed' : Owed) (d d' : DualState) (old new : F)
+      (events events' : PurgeEvents L g) : Type 0 where
+    pub drops : Drops Append (HaveOwedNoRecord (tables_of m) owed) result
+        (λ x. by_groups (tables_of m) owed (known x)) (λ x. by_groups (tables_of m) owed' (known x))
+        d d' old new events events'
+    pub files : OnOk result (HasPurgedFront m owed' d.append d'.append)
+    pub first : HasLostFront None m d.append d'.append
