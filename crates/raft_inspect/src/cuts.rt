@@ -53,8 +53,8 @@ impl Cut {
         is_tolerant: bool,
         is_last: bool,
     ) -> Result<Option<Cut>, AllocError>
-        ensures value { IfOk result (λ cut. option_map place_of cut
-            ≡ cut_as (planned_stop is_tolerant check.now.end check.now.stop) file.now check.now) }
+        ensures value { IfOk result (λ cut. option_map place_of cut ≡ cut_as
+            (planned_stop is_tolerant check.now.end check.now.stop) is_last file.now check.now) }
     {
         match &check.stop {
             None => Ok(None),
@@ -65,7 +65,7 @@ impl Cut {
 
     fn broken(file: &LogFile, check: &FileCheck, is_last: bool) -> Result<Option<Cut>, AllocError>
         ensures value { IfOk result (λ cut. option_map place_of cut
-            ≡ (if check.now.zeros then None else Some (place_in file.now check.now))) }
+            ≡ (if check.now.zeros then None else Some (place_in is_last file.now check.now))) }
     {
         if check.zeros {
             return Ok(None);
@@ -75,7 +75,7 @@ impl Cut {
 
     // From where its reading ends on.
     fn new(file: &LogFile, check: &FileCheck, is_last: bool) -> Result<Cut, AllocError>
-        ensures value { IfOk result (IsToldOf file.now check.now) }
+        ensures value { IfOk result (IsToldOf is_last file.now check.now) }
     {
         Ok(Cut {
             id: file.id,
