@@ -13,7 +13,7 @@ use Rattle.raft_dump.specs.declared.check.FileCheck.{FileCheck}
 use Rattle.raft_dump.specs.declared.files.LogFile.{LogFile}
 use Rattle.raft_dump.specs.declared.plan.Planned.{Planned}
 use Rattle.raft_dump.specs.declared.plan.Planned.TheVariants.{Cut, Fail, Keep}
-use Rattle.raft_inspect.specs.Behind.{HoldsRecord, IsNoneIn}
+use Rattle.raft_inspect.specs.Behind.{HoldsRecord, IsLongSearch, IsNoneIn}
 use Rattle.raft_inspect.specs.declared.cuts.Cut.{Cut as TheCut}
 use Rattle.raft_inspect.specs.declared.cuts.Unexplained.{Unexplained}
 use Rattle.raft_inspect.specs.declared.cuts.Unexplained.TheVariants.{Earlier, Records, Unsearched}
@@ -74,5 +74,5 @@ cuts_in mode (f ∷ files) (c ∷ checks) =
 abbrev pub IsToldWhy : TheCut → List ℕ → Option Unexplained → Type 0
 IsToldWhy c bytes (Some Earlier) = c.is_last ≡ false
 IsToldWhy c bytes (Some Records) = (c.is_last ≡ true) × HoldsRecord c.id.seq c.version bytes
-IsToldWhy c bytes (Some Unsearched) = c.is_last ≡ true
+IsToldWhy c bytes (Some Unsearched) = (c.is_last ≡ true) × IsLongSearch bytes
 IsToldWhy c bytes None = (c.is_last ≡ true) × IsNoneIn c.id.seq c.version bytes (length bytes)

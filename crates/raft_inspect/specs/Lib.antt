@@ -2,4 +2,5 @@ pub mod Behind
 pub mod Checks
 pub mod Cuts
 pub mod Kept
+pub mod Listed
 pub mod Losses
