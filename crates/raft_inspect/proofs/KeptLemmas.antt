@@ -89,8 +89,8 @@ module _ {queue : LogQueue} {front : List FileCheck} {old : Passed} {new : Passe
       record {
         queue_is = queue_is ∙ told.queue_is;
         files = same.0 ∙ told.files ∙ sym (ap (λ (xs : List FileCheck). length xs) held);
-        bytes = same.1.0 ∙ told.bytes ∙ sym (ap (λ (xs : List FileCheck). min (sum_by (λ (x : FileCheck). x.len) xs) (2 ^ 64 - 1)) held);
-        first = same.1.1 ∙ told.first ∙ sym (ap (λ (xs : List FileCheck). fold min (2 ^ 64 - 1) (numbers_of xs)) held);
+        bytes = same.1 ∙ told.bytes ∙ sym (ap (λ (xs : List FileCheck). min (sum_by (λ (x : FileCheck). x.len) xs) (2 ^ 64 - 1)) held);
+        first = same.2 ∙ told.first ∙ sym (ap (λ (xs : List FileCheck). fold min (2 ^ 64 - 1) (numbers_of xs)) held);
         last = last ∙ ap (λ (k : ℕ). max k c.id.seq) told.last ∙ sym (greatest_more front c);
       }
 
@@ -102,12 +102,12 @@ module _ {queue : LogQueue} {front : List FileCheck} {old : Passed} {new : Passe
       let count : length (those_held front ++ c ∷ []) ≡ length (those_held front) + 1 = length-append (those_held front) (c ∷ []) in
       let sum : sum_by (λ (x : FileCheck). x.len) (those_held front ++ c ∷ []) ≡ sum_by (λ (x : FileCheck). x.len) (those_held front) + c.len = sum_by_push (λ (x : FileCheck). x.len) (those_held front) c in
       let files : new.files ≡ length (those_held front ++ c ∷ []) = let is = more.0 in let was = told.files in omega (arith, is, was, fewer, count, short) in
-      let bytes : new.bytes ≡ min (sum_by (λ (x : FileCheck). x.len) (those_held front ++ c ∷ [])) (2 ^ 64 - 1) = let is = more.1.0 in let was = told.bytes in omega (arith, is, was, sum) in
+      let bytes : new.bytes ≡ min (sum_by (λ (x : FileCheck). x.len) (those_held front ++ c ∷ [])) (2 ^ 64 - 1) = let is = more.1 in let was = told.bytes in omega (arith, is, was, sum) in
       record {
         queue_is = queue_is ∙ told.queue_is;
         files = files ∙ sym (ap (λ (xs : List FileCheck). length xs) held);
         bytes = bytes ∙ sym (ap (λ (xs : List FileCheck). min (sum_by (λ (x : FileCheck). x.len) xs) (2 ^ 64 - 1)) held);
-        first = more.1.1 ∙ ap (λ (k : ℕ). min k c.id.seq) told.first ∙ sym (least_more (those_held front) c) ∙ sym (ap (λ (xs : List FileCheck). fold min (2 ^ 64 - 1) (numbers_of xs)) held);
+        first = more.2 ∙ ap (λ (k : ℕ). min k c.id.seq) told.first ∙ sym (least_more (those_held front) c) ∙ sym (ap (λ (xs : List FileCheck). fold min (2 ^ 64 - 1) (numbers_of xs)) held);
         last = last ∙ ap (λ (k : ℕ). max k c.id.seq) told.last ∙ sym (greatest_more front c);
       }
     where

@@ -1,5 +1,5 @@
 -- Which log files of a queue an opening keeps, and which it passes over.
-use Rattle.std.specs.Prelude.{◌≡◌, ◌↔◌, ℕ, suc, ◌-◌, ◌^◌, ◌&&◌, ◌||◌, ◌==◌, min, max, Bool, true, false, not, nat_le, List, [], ◌∷◌, length, Option, Some, None, filter, is_none, map}
+use Rattle.std.specs.Prelude.{◌≡◌, ◌↔◌, ℕ, ◌+◌, ◌-◌, ◌^◌, ◌&&◌, ◌||◌, ◌==◌, min, max, Bool, true, false, not, nat_le, List, [], ◌∷◌, length, Option, Some, None, filter, is_none, map}
 use Rattle.std.specs.List.{filter_map, flat_map, fold, list_all, sum_by}
 use Rattle.std.specs.Str.{bytes_eq}
 use Rattle.raft_base.specs.declared.pipe_log.FileId.{FileId}
@@ -60,7 +60,7 @@ pub record IsPassedOf (queue : LogQueue) (checks : List FileCheck) (p : Passed) 
   pub bytes : p.bytes ≡ min (sum_by (λ c. c.len) (those_held checks)) (2 ^ 64 - 1)
   pub first : p.first ≡ fold min (2 ^ 64 - 1) (numbers_of (those_held checks))
   pub last : p.last ≡ fold max 0 (numbers_of checks)
-  pub missing : p.missing ≡ min (suc p.last) (2 ^ 64 - 1)
+  pub missing : p.missing ≡ min (p.last + 1) (2 ^ 64 - 1)
 
 -- .. and nothing where none of them holds anything
 abbrev pub IsPassedTold : LogQueue → List FileCheck → Option Passed → Type 0

@@ -21,7 +21,7 @@ loop-at-preserved c =
       ]) in
     let len : c.candidate_len-len.result ≡ headed_len (drop at bytes) = c.candidate_len-len.ensures.value ∙ ap headed_len (take_rest bytes at) in
     let step = headed_step bytes at (omega (arith, c.loop-at-test.true)) in
-    (none, omega (arith, c.if-left-len.false), omega (arith, len, step, c.if-left-len.false, c.loop-at.invariant.1.1))
+    (none, omega (arith, c.if-left-len.false), omega (arith, len, step, c.if-left-len.false, c.loop-at.invariant.2))
 
 pub returns-then-left-len-clause-ended : goal.returns-then-left-len-clause-ended
 returns-then-left-len-clause-ended c = λ is.
@@ -29,4 +29,4 @@ returns-then-left-len-clause-ended c = λ is.
     let at = c.loop-at.at in
     let len : c.candidate_len-len.result ≡ headed_len (drop at bytes) = c.candidate_len-len.ensures.value ∙ ap headed_len (take_rest bytes at) in
     let step = headed_step bytes at (omega (arith, c.loop-at-test.true)) in
-    omega (arith, len, step, c.if-left-len.true, c.loop-at.invariant.1.1)
+    omega (arith, len, step, c.if-left-len.true, c.loop-at.invariant.2)

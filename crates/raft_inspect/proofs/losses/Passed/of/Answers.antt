@@ -28,3 +28,20 @@ returns-then-passed-eq0 c =
       told = subst (λ (all : List FileCheck). list_all holds_nothing all ≡ true) whole
           ((none_held (take c.loop-check.check-index checks)).0 (sym c.loop-check.invariant.files ∙ c.if-passed-eq0.true));
     }
+
+pub returns : goal.returns
+returns c =
+    let checks = c.args.checks.now in
+    let whole : take c.loop-check.check-index checks ≡ checks = take_all c.loop-check.check-index checks (omega (arith, c.loop-check-test.false)) in
+    let all = subst (λ (front : List FileCheck). IsToldTo c.args.queue front c.loop-check.passed) whole c.loop-check.invariant in
+    record {
+      told = record {
+        queue_is = all.queue_is;
+        some = false_from_ne_true _ (λ every. absurd (let none = all.files ∙ (none_held checks).1 every in let some = c.if-passed-eq0.false in omega (arith, none, some)));
+        files = all.files;
+        bytes = all.bytes;
+        first = all.first;
+        last = all.last;
+        missing = c.saturating_add.ensures;
+      };
+    }
