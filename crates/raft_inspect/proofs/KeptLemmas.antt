@@ -1,19 +1,16 @@
 -- Files that are listed, and those that are kept or passed over.
 use Rattle.std.proofs.Common.{◌≡◌, ◌∙◌, ◌++◌, ◌+◌, ◌-◌, ◌^◌, ◌≤◌, ◌<◌, ℕ, suc, min, max, Bool, true, false, cond, List, [], ◌∷◌, length, length-append, map, ap, append_assoc, append-nil, arith, refl, sym}
 use Rattle.std.specs.Prelude.{◌↔◌, ◌&&◌, not}
-use denote.Ref.{Bor}
-use Rattle.std.specs.List.{filter, filter_map, flat_map, fold, list_all, sum_by}
-use Rattle.std.proofs.lemmas.Grind.{flat_map-append}
+use Rattle.std.specs.List.{filter, fold, list_all, sum_by}
 use Rattle.std.proofs.lemmas.List.{map-append}
 use Rattle.std.proofs.lemmas.List.Elements.{filter-append}
 use Rattle.std.proofs.lemmas.List.Sums.{count_by-le-length, fold_push, length-filter, sum_by_push}
 use Rattle.raft_base.specs.declared.pipe_log.FileId.{FileId}
 use Rattle.raft_base.specs.declared.pipe_log.LogQueue.{LogQueue}
-use Rattle.raft_env.specs.Directory.{Directory, Path, names_in}
+use Rattle.raft_env.specs.Directory.{Path}
 use Rattle.raft_dump.specs.Check.{numbers_of}
-use Rattle.raft_dump.specs.LogFiles.{file_named}
 use Rattle.raft_dump.specs.declared.check.FileCheck.{FileCheck}
-use Rattle.raft_inspect.specs.Kept.{all_in, holds_nothing, those_held}
+use Rattle.raft_inspect.specs.Kept.{holds_nothing, those_held}
 use Rattle.raft_inspect.specs.declared.losses.Passed.{Passed}
 
 abbrev Place : Type 0
@@ -27,27 +24,6 @@ filtered_more test now rest all f was is =
 pub filtered_same : (test : Place → Bool) (now rest all : List Place) (f : Place) → now ++ filter test (f ∷ rest) ≡ all → test f ≡ false → now ++ filter test rest ≡ all
 filtered_same test now rest all f was is =
     sym (ap (λ (b : Bool). now ++ cond b (f ∷ filter test rest) (filter test rest)) is) ∙ was
-
--- the files of one folder more, where it is there
-pub there_more : (queue : LogQueue) (n : Directory) (front more : List (Bor (List ℕ))) (folder : Bor (List ℕ)) (now after : List Place)
-    → more ≡ front ++ folder ∷ [] → now ≡ all_in (filter n.is_folder (map (λ (f : Bor (List ℕ)). f.now) front)) queue n
-    → after ≡ now ++ cond (n.is_folder folder.now) (filter_map (file_named folder.now queue) (names_in folder.now n)) [] → after ≡ all_in (filter n.is_folder (map (λ (f : Bor (List ℕ)). f.now) more)) queue n
-there_more queue n front more folder now after is was grown =
-    let path : Bor (List ℕ) → Path = λ f. f.now in
-    let listed : Path → List Place = λ path. filter_map (file_named path queue) (names_in path n) in
-    let there : List Path = filter n.is_folder (map path front) in
-    grown ∙ ap (λ (fs : List Place). fs ++ cond (n.is_folder folder.now) (listed folder.now) []) was
-    ∙ ap (λ (fs : List Place). flat_map listed there ++ fs) (one_more listed folder.now (n.is_folder folder.now))
-    ∙ sym (
-    ap (λ (fs : List (Bor (List ℕ))). all_in (filter n.is_folder (map path fs)) queue n) is
-    ∙ ap (λ (fs : List Path). all_in (filter n.is_folder fs) queue n) (map-append path front (folder ∷ []))
-    ∙ ap (λ (fs : List Path). all_in fs queue n) (filter-append n.is_folder (map path front) (folder.now ∷ []))
-    ∙ flat_map-append listed there (filter n.is_folder (folder.now ∷ []))
-    )
-  where
-    one_more : (listed : Path → List Place) (folder : Path) (b : Bool) → cond b (listed folder) [] ≡ flat_map listed (cond b (folder ∷ []) [])
-    one_more listed folder true = sym (append-nil (listed folder))
-    one_more listed folder false = refl
 
 -- one more holds nothing, or something
 pub held_same : (front : List FileCheck) (c : FileCheck) → holds_nothing c ≡ true → those_held (front ++ c ∷ []) ≡ those_held front

@@ -8,7 +8,7 @@ ghost use Rattle.raft_env.specs.Refusal.{FailsAt, NamesFile};
 ghost use Rattle.raft_files.specs.Writer.{bytes_at};
 ghost use Rattle.raft_dump.specs.Check.{planned_stop};
 ghost use Rattle.raft_inspect.specs.Cuts.{IsToldOf, IsToldWhy, cut_as, cuts_in, place_in, place_of};
-ghost use Rattle.raft_inspect.specs.Listed.{IsFailing};
+ghost use Rattle.raft_inspect.specs.Failing.{IsFailing};
 
 use crate::behind::{Behind, search_behind};
 use crate::queue_files::QueueFiles;

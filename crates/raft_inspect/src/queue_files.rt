@@ -8,7 +8,7 @@ ghost use Rattle.raft_env.specs.Moments.{OnlyReads};
 ghost use Rattle.raft_dump.specs.Check.{AreLastToRise, numbers_of, plan_of};
 ghost use Rattle.raft_dump.specs.LogFiles.{file_named, place_of};
 ghost use Rattle.raft_inspect.specs.Checks.{AreChecksOf, IsReadFault};
-ghost use Rattle.raft_inspect.specs.Listed.{AreListedOf, IsFailing, is_doubled, number_before};
+ghost use Rattle.raft_inspect.specs.Failing.{IsFailing, is_doubled, number_before};
 
 use crate::kept::add_folder;
 use raft_config::RecoveryMode;
@@ -34,8 +34,10 @@ pub fn inspect<F: FileSystem>(
     folders: &[&str],
     queue: LogQueue,
 ) -> Result<QueueFiles, Fault>
-    ensures value { IfOk result (AreListedOf (map (λ folder. folder.now) folders.now) queue
-        (F.directory file_system.old)) }
+    ensures found { IfOk result (λ found. (found.queue ≡ queue)
+        × AreLastToRise (numbers_of found.checks.items) found.passed) }
+    ensures value { IfOk result (λ found. AreChecksOf (F.directory file_system.old)
+        found.files.items found.checks.items) }
     ensures unchanged { OnlyReads F.directory F.moments F.refusals_of file_system.old
         file_system.new }
     ensures cause { IfErr result (IsReadFault (F.refusals_of file_system.old)

@@ -14,11 +14,11 @@ loop-at-preserved c =
     let here : IsNoRecord c.args.id.seq c.args.version (drop at bytes) =
     subst (λ (rest : List ℕ). IsNoRecord c.args.id.seq c.args.version rest) (take_rest bytes at) (c.in_ok-is_written.ensures.no c.if-branch.false) in
     let none : IsNoneIn c.args.id.seq c.args.version bytes (at + 1) = λ k before. (
-      let within : k ≤ at = omega (arith, before) in
-      elim (eq-or-lt_of_le within) [
-        | inl same ↦ subst (λ (k : ℕ). IsNoRecord c.args.id.seq c.args.version (drop k bytes)) (sym same) here
-        | inr less ↦ c.loop-at.invariant.0 k less
-      ]) in
+    let within : k ≤ at = omega (arith, before) in
+    elim (eq-or-lt_of_le within) [
+      | inl same ↦ subst (λ (k : ℕ). IsNoRecord c.args.id.seq c.args.version (drop k bytes)) (sym same) here
+      | inr less ↦ c.loop-at.invariant.0 k less
+    ]) in
     let len : c.candidate_len-len.result ≡ headed_len (drop at bytes) = c.candidate_len-len.ensures.value ∙ ap headed_len (take_rest bytes at) in
     let step = headed_step bytes at (omega (arith, c.loop-at-test.true)) in
     (none, omega (arith, c.if-left-len.false), omega (arith, len, step, c.if-left-len.false, c.loop-at.invariant.2))

@@ -15,7 +15,7 @@ loop-check-preserved c =
     let grown : take (i + 1) checks ≡ take i checks ++ check ∷ [] = take_more checks i check (omega (arith, c.loop-check-test.true)) ∙ ap (λ (x : FileCheck). take i checks ++ x ∷ []) (sym c.check-item.is) in
     let short : length (take i checks) + 1 < 2 ^ 64 = omega (arith, c.loop-check-test.true, length-take i checks) in
     subst (λ (front : List FileCheck). IsToldTo c.args.queue front c.add.new.self) (sym grown)
-        (elim (cases_Bool (holds_nothing check)) [
+    (elim (cases_Bool (holds_nothing check)) [
       | inl is ↦ told_same check c.loop-check.invariant is c.add.ensures.queue c.add.ensures.last (c.add.ensures.adds_none is)
       | inr is ↦ told_more check c.loop-check.invariant short is c.add.ensures.queue c.add.ensures.last (c.add.ensures.adds_one is)
     ])
