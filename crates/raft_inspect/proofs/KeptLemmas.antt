@@ -37,11 +37,11 @@ held_more front c is =
 -- none is counted just where none holds anything
 pub none_held : (checks : List FileCheck) → (length (those_held checks) ≡ 0) ↔ (list_all holds_nothing checks ≡ true)
 none_held [] = (λ none. refl, λ every. refl)
-none_held (c ∷ checks) = one (holds_nothing c) refl
+none_held (c ∷ checks) = one (none_held checks) (holds_nothing c) refl
   where
-    one : (b : Bool) → holds_nothing c ≡ b → (length (those_held (c ∷ checks)) ≡ 0) ↔ (list_all holds_nothing (c ∷ checks) ≡ true)
-    one true is = (λ none. ap (λ (b : Bool). b && list_all holds_nothing checks) is ∙ (none_held checks).0 (sym (ap (λ (b : Bool). length (cond (not b) (c ∷ those_held checks) (those_held checks))) is) ∙ none), λ every. ap (λ (b : Bool). length (cond (not b) (c ∷ those_held checks) (those_held checks))) is ∙ (none_held checks).1 (sym (ap (λ (b : Bool). b && list_all holds_nothing checks) is) ∙ every))
-    one false is = (λ none. absurd (let more : suc (length (those_held checks)) ≡ 0 = sym (ap (λ (b : Bool). length (cond (not b) (c ∷ those_held checks) (those_held checks))) is) ∙ none in omega (arith, more)), λ every. absurd (let clash : false ≡ true = sym (ap (λ (b : Bool). b && list_all holds_nothing checks) is) ∙ every in cc))
+    one : (length (those_held checks) ≡ 0) ↔ (list_all holds_nothing checks ≡ true) → (b : Bool) → holds_nothing c ≡ b → (length (those_held (c ∷ checks)) ≡ 0) ↔ (list_all holds_nothing (c ∷ checks) ≡ true)
+    one rest true is = (λ none. ap (λ (b : Bool). b && list_all holds_nothing checks) is ∙ rest.0 (sym (ap (λ (b : Bool). length (cond (not b) (c ∷ those_held checks) (those_held checks))) is) ∙ none), λ every. ap (λ (b : Bool). length (cond (not b) (c ∷ those_held checks) (those_held checks))) is ∙ rest.1 (sym (ap (λ (b : Bool). b && list_all holds_nothing checks) is) ∙ every))
+    one rest false is = (λ none. absurd (let more : suc (length (those_held checks)) ≡ 0 = sym (ap (λ (b : Bool). length (cond (not b) (c ∷ those_held checks) (those_held checks))) is) ∙ none in omega (arith, more)), λ every. absurd (let clash : false ≡ true = sym (ap (λ (b : Bool). b && list_all holds_nothing checks) is) ∙ every in cc))
 
 -- what is told of the files so far
 pub record IsToldTo (queue : LogQueue) (front : List FileCheck) (p : Passed) : Type 0 where

@@ -47,10 +47,7 @@ pub fn measure<F: FileSystem>(
     file_system: &mut F,
     rewrite: &QueueFiles,
     append: &QueueFiles,
-) -> Result<LogUsage, Fault>
-    ensures unchanged { OnlyReads F.directory F.moments F.refusals_of file_system.old
-        file_system.new }
-{
+) -> Result<LogUsage, Fault> {
     let tables = tables_of(alloc, file_system, rewrite, append)?;
     let mut usage = LogUsage {
         rewrite: QueueUsage::new(alloc, rewrite)?,
@@ -71,14 +68,11 @@ fn tables_of<F: FileSystem>(
     file_system: &mut F,
     rewrite: &QueueFiles,
     append: &QueueFiles,
-) -> Result<MemTables, Fault>
-    ensures unchanged { OnlyReads F.directory F.moments F.refusals_of file_system.old
-        file_system.new }
-{
+) -> Result<MemTables, Fault> {
     let mut stats = GlobalStats::new();
     let mut batches = RewrittenBatches::new(alloc);
     let mut reader = BatchReader::new(alloc, rewrite.kept_files())?;
-    'rewritten: for _ in 0..u64::MAX {
+    for _ in 0..u64::MAX {
         match reader.next(file_system)? {
             Some((items, id)) => batches.push(items, id)?,
             None => break,
@@ -86,7 +80,7 @@ fn tables_of<F: FileSystem>(
     }
     let mut context = MemTableRecoverContext::new(batches.into_tables(&mut stats)?);
     let mut reader = BatchReader::new(alloc, append.kept_files())?;
-    'appended: for _ in 0..u64::MAX {
+    for _ in 0..u64::MAX {
         match reader.next(file_system)? {
             Some((mut items, id)) => context.replay_append(&mut items, id, &mut stats)?,
             None => break,
@@ -127,10 +121,7 @@ impl<F: FileSystem> BatchReader<F> {
     }
 
     // The items of the next record, and its file.
-    fn next(&mut self, file_system: &mut F) -> Result<Option<(Vec<LogItem>, FileId)>, Fault>
-        ensures unchanged { OnlyReads F.directory F.moments F.refusals_of
-            file_system.old file_system.new }
-    {
+    fn next(&mut self, file_system: &mut F) -> Result<Option<(Vec<LogItem>, FileId)>, Fault> {
         let first = match self.ahead.take() {
             Some(first) => Some(first),
             None => self.next_item(file_system)?,
@@ -146,14 +137,11 @@ impl<F: FileSystem> BatchReader<F> {
         &mut self,
         first: Placed,
         file_system: &mut F,
-    ) -> Result<(Vec<LogItem>, FileId), Fault>
-        ensures unchanged { OnlyReads F.directory F.moments F.refusals_of
-            file_system.old file_system.new }
-    {
+    ) -> Result<(Vec<LogItem>, FileId), Fault> {
         let Placed { item, place } = first;
         let mut items = Vec::new(self.alloc);
         items.push(item)?;
-        'items: for _ in 0..u64::MAX {
+        for _ in 0..u64::MAX {
             let Some(next) = self.next_item(file_system)? else {
                 break;
             };
@@ -167,11 +155,8 @@ impl<F: FileSystem> BatchReader<F> {
     }
 
     // The next item of a file that can be read.
-    fn next_item(&mut self, file_system: &mut F) -> Result<Option<Placed>, Fault>
-        ensures unchanged { OnlyReads F.directory F.moments F.refusals_of
-            file_system.old file_system.new }
-    {
-        'items: for _ in 0..u64::MAX {
+    fn next_item(&mut self, file_system: &mut F) -> Result<Option<Placed>, Fault> {
+        for _ in 0..u64::MAX {
             let Some(next) = self.items.next(file_system) else {
                 break;
             };
