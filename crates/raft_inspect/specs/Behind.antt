@@ -1,10 +1,11 @@
 -- Whole records behind the place at which a log file is broken.
-use Rattle.std.specs.Prelude.{◌≡◌, ℕ, ◌<◌, List, drop, length, Option, Some, None}
+use Rattle.std.specs.Prelude.{◌≡◌, ℕ, ◌<◌, ◌≤◌, List, drop, length, Option, Some, None}
 use Rattle.raft_base.specs.FileId.{signature_in}
 use Rattle.raft_base.specs.declared.errors.Fault.TheVariants.{Corruption}
 use Rattle.raft_base.specs.declared.pipe_log.Version.{Version}
 use Rattle.raft_base.specs.declared.pipe_log.Version.TheVariants.{V1, V2}
 use Rattle.raft_records.specs.ItemBatch.{record_refusal}
+use Rattle.raft_dump.specs.Stale.{headed_lens}
 
 -- no record that is signed so begins here
 abbrev pub IsBroken : Option ℕ → List ℕ → Type 0
@@ -25,3 +26,10 @@ pub record HoldsRecord (seq : ℕ) (version : Option Version) (bytes : List ℕ)
   pub at : ℕ
   pub within : at < length bytes
   pub stands : ¬ IsNoRecord seq version (drop at bytes)
+
+-- a search ends where so many bytes of what may be records stand in the bytes, or more
+abbrev pub most_searched : ℕ
+most_searched = 268435456
+
+abbrev pub IsLongSearch : List ℕ → Type 0
+IsLongSearch bytes = most_searched ≤ headed_lens bytes

@@ -1,7 +1,10 @@
 -- What an opening cuts off of log files.
 use Rattle.std.specs.Prelude.{◌≡◌, ℕ, ◌-◌, ◌==◌, Bool, true, false, List, [], ◌∷◌, length, Option, Some, None, if◌then◌else◌}
 use Rattle.std.specs.List.{cons_option}
+use Rattle.std.specs.Option.{option_map}
 use Rattle.std.specs.String.{string_bytes}
+use Rattle.raft_base.specs.declared.pipe_log.FileId.{FileId}
+use Rattle.raft_base.specs.declared.pipe_log.Version.{Version}
 use Rattle.raft_env.specs.Directory.{Path}
 use Rattle.raft_config.specs.Recovery.{tolerates_corruption}
 use Rattle.raft_config.specs.declared.config.RecoveryMode.{RecoveryMode}
@@ -10,44 +13,66 @@ use Rattle.raft_dump.specs.declared.check.FileCheck.{FileCheck}
 use Rattle.raft_dump.specs.declared.files.LogFile.{LogFile}
 use Rattle.raft_dump.specs.declared.plan.Planned.{Planned}
 use Rattle.raft_dump.specs.declared.plan.Planned.TheVariants.{Cut, Fail, Keep}
-use Rattle.raft_inspect.specs.Behind.{HoldsRecord, IsNoneIn}
+use Rattle.raft_inspect.specs.Behind.{HoldsRecord, IsLongSearch, IsNoneIn}
 use Rattle.raft_inspect.specs.declared.cuts.Cut.{Cut as TheCut}
 use Rattle.raft_inspect.specs.declared.cuts.Unexplained.{Unexplained}
 use Rattle.raft_inspect.specs.declared.cuts.Unexplained.TheVariants.{Earlier, Records, Unsearched}
 
--- bytes of a file: its path, where they begin, and how many there are
+-- bytes of a file: its number and path, where they begin, how many there are, whether an earlier file left
+-- them, whether the file is its queue's last one, and the version of its records, where its header tells one
 pub record CutPlace : Type 0 where
+  pub id : FileId
   pub path : Path
   pub offset : ℕ
   pub len : ℕ
+  pub stale : Bool
+  pub is_last : Bool
+  pub version : Option Version
 
 abbrev pub place_of : TheCut → CutPlace
-place_of c = record { path = string_bytes c.path; offset = c.offset; len = c.len }
+place_of c = record {
+  id = c.id;
+  path = string_bytes c.path;
+  offset = c.offset;
+  len = c.len;
+  stale = c.stale;
+  is_last = c.is_last;
+  version = c.version;
+}
 
--- those behind what can be read of a file
-abbrev pub place_in : LogFile → FileCheck → CutPlace
-place_in f c = record { path = string_bytes f.path; offset = c.end; len = c.len - c.end }
+-- those behind what can be read of a file, which is the last one or isn't
+abbrev pub place_in : Bool → LogFile → FileCheck → CutPlace
+place_in is_last f c = record {
+  id = f.id;
+  path = string_bytes f.path;
+  offset = c.end;
+  len = c.len - c.end;
+  stale = c.stale;
+  is_last = is_last;
+  version = option_map (λ format. format.version) c.format;
+}
 
-abbrev pub IsToldOf : LogFile → FileCheck → TheCut → Type 0
-IsToldOf f c told = place_of told ≡ place_in f c
+abbrev pub IsToldOf : Bool → LogFile → FileCheck → TheCut → Type 0
+IsToldOf is_last f c told = place_of told ≡ place_in is_last f c
 
 -- what is told of a file of which this is planned: zeros that were made ahead hold nothing
-abbrev pub cut_as : Planned → LogFile → FileCheck → Option CutPlace
-cut_as (Cut _) f c = if c.zeros then None else Some (place_in f c)
-cut_as Keep f c = None
-cut_as Fail f c = None
+abbrev pub cut_as : Planned → Bool → LogFile → FileCheck → Option CutPlace
+cut_as (Cut _) is_last f c = if c.zeros then None else Some (place_in is_last f c)
+cut_as Keep is_last f c = None
+cut_as Fail is_last f c = None
 
--- .. of each of these files of a queue, with what can be read of them
+-- .. of each of these files of a queue, with what can be read of them: none behind it is the last one
 abbrev pub cuts_in : RecoveryMode → List LogFile → List FileCheck → List CutPlace
 cuts_in mode files [] = []
 cuts_in mode [] (c ∷ checks) = []
 cuts_in mode (f ∷ files) (c ∷ checks) =
-    cons_option (cut_as (planned_stop (tolerates_corruption mode (length checks == 0)) c.end c.stop) f c)
+    let is_last = length checks == 0 in
+    cons_option (cut_as (planned_stop (tolerates_corruption mode is_last) c.end c.stop) is_last f c)
     (cuts_in mode files checks)
 
 -- why an unsynced tail doesn't explain these bytes: nothing hinders it where no whole record stands there
 abbrev pub IsToldWhy : TheCut → List ℕ → Option Unexplained → Type 0
 IsToldWhy c bytes (Some Earlier) = c.is_last ≡ false
 IsToldWhy c bytes (Some Records) = (c.is_last ≡ true) × HoldsRecord c.id.seq c.version bytes
-IsToldWhy c bytes (Some Unsearched) = c.is_last ≡ true
+IsToldWhy c bytes (Some Unsearched) = (c.is_last ≡ true) × IsLongSearch bytes
 IsToldWhy c bytes None = (c.is_last ≡ true) × IsNoneIn c.id.seq c.version bytes (length bytes)

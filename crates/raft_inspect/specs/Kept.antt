@@ -1,12 +1,12 @@
 -- Which log files of a queue an opening keeps, and which it passes over.
-use Rattle.std.specs.Prelude.{◌≡◌, ◌↔◌, ℕ, ◌&&◌, ◌||◌, ◌==◌, Bool, true, false, not, nat_le, List, [], ◌∷◌, Option, Some, None, filter, is_none, map}
-use Rattle.std.specs.List.{filter_map, flat_map, list_all}
-use Rattle.std.specs.List.Sorted.{IsPermutation}
+use Rattle.std.specs.Prelude.{◌≡◌, ◌↔◌, ℕ, ◌+◌, ◌-◌, ◌^◌, ◌&&◌, ◌||◌, ◌==◌, min, max, Bool, true, false, not, nat_le, List, [], ◌∷◌, length, Option, Some, None, filter, is_none, map}
+use Rattle.std.specs.List.{filter_map, flat_map, fold, list_all, sum_by}
 use Rattle.std.specs.Str.{bytes_eq}
 use Rattle.raft_base.specs.declared.pipe_log.FileId.{FileId}
 use Rattle.raft_base.specs.declared.pipe_log.LogQueue.{LogQueue}
 use Rattle.raft_env.specs.Directory.{Directory, Path, names_in}
 use Rattle.raft_config.specs.Folders.{Folders, all_of}
+use Rattle.raft_dump.specs.Check.{numbers_of}
 use Rattle.raft_dump.specs.LogFiles.{file_named, place_of}
 use Rattle.raft_dump.specs.declared.check.FileCheck.{FileCheck}
 use Rattle.raft_dump.specs.declared.files.LogFile.{LogFile}
@@ -47,11 +47,25 @@ is_passed (k ∷ kept) f = nat_le f.0.seq k.0.seq && not (bytes_eq f.1 k.1)
 abbrev pub holds_nothing : FileCheck → Bool
 holds_nothing c = (c.records == 0) && (is_none c.stop || c.zeros)
 
--- what is told of files that are passed over: nothing where none of them holds anything
+-- those of them that hold something
+abbrev pub those_held : List FileCheck → List FileCheck
+those_held checks = filter (λ c. not (holds_nothing c)) checks
+
+-- what is told of files that are passed over: how many of them hold something, how many bytes these have and the
+-- least of their numbers; the greatest number of all, and the one behind it
+pub record IsPassedOf (queue : LogQueue) (checks : List FileCheck) (p : Passed) : Type 0 where
+  pub queue_is : p.queue ≡ queue
+  pub some : list_all holds_nothing checks ≡ false
+  pub files : p.files ≡ length (those_held checks)
+  pub bytes : p.bytes ≡ min (sum_by (λ c. c.len) (those_held checks)) (2 ^ 64 - 1)
+  pub first : p.first ≡ fold min (2 ^ 64 - 1) (numbers_of (those_held checks))
+  pub last : p.last ≡ fold max 0 (numbers_of checks)
+  pub missing : p.missing ≡ min (p.last + 1) (2 ^ 64 - 1)
+
+-- .. and nothing where none of them holds anything
 abbrev pub IsPassedTold : LogQueue → List FileCheck → Option Passed → Type 0
 IsPassedTold queue checks None = list_all holds_nothing checks ≡ true
-IsPassedTold queue checks (Some p) =
-    (p.queue ≡ queue) × (list_all holds_nothing checks ≡ false)
+IsPassedTold queue checks (Some p) = IsPassedOf queue checks p
 
 -- .. of those of a queue in these folders
 pub record ArePassedOf (folders : List Path) (queue : LogQueue) (n : Directory)
@@ -59,8 +73,6 @@ pub record ArePassedOf (folders : List Path) (queue : LogQueue) (n : Directory)
   pub listed : List LogFile
   pub are : map place_of listed
       ≡ filter (is_passed (kept_in folders queue n)) (all_in folders queue n)
-  pub files : List LogFile
-  pub sorted : IsPermutation listed files
   pub checks : List FileCheck
-  pub read : AreChecksOf n files checks
+  pub read : AreChecksOf n listed checks
   pub is : IsPassedTold queue checks told

@@ -1,5 +1,6 @@
 pub mod Behind
 pub mod Checks
 pub mod Cuts
+pub mod Failing
 pub mod Kept
 pub mod Losses

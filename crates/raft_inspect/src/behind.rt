@@ -3,8 +3,9 @@ ghost use Rattle.std.specs.Prelude.{◌≡◌, true, false, None, length, IfErr,
 ghost use Rattle.raft_base.specs.declared.errors.Fault.TheVariants.{Memory};
 ghost use Rattle.raft_base.specs.FileId.{file_signature};
 ghost use Rattle.raft_records.specs.Record.{record_header};
-ghost use Rattle.raft_inspect.specs.Behind.{HoldsRecord, IsBroken, IsNoRecord, IsNoneIn};
-ghost use Rattle.raft_inspect.specs.declared.behind.Behind.TheVariants.{Nothing, Record};
+ghost use Rattle.raft_dump.specs.Stale.{headed_len};
+ghost use Rattle.raft_inspect.specs.Behind.{HoldsRecord, IsBroken, IsLongSearch, IsNoRecord, IsNoneIn};
+ghost use Rattle.raft_inspect.specs.declared.behind.Behind.TheVariants.{Nothing, Record, Unsearched};
 
 use raft_records::{Fault, FileId, LogFileContext, Version, decode_header, decode_record};
 use std::alloc::Global;
@@ -33,6 +34,7 @@ pub fn search_behind(
     ensures found { IfOk result (λ found. found ≡ Record → HoldsRecord id.seq version bytes.now) }
     ensures none { IfOk result (λ found. found ≡ Nothing
         → IsNoneIn id.seq version bytes.now (length bytes.now)) }
+    ensures ended { IfOk result (λ found. found ≡ Unsearched → IsLongSearch bytes.now) }
     ensures memory { IfErr result (λ e. e ≡ Memory) }
 {
     let mut left = MOST_BYTES;
@@ -40,16 +42,19 @@ pub fn search_behind(
         if is_written(alloc, id, version, &bytes[at..])? {
             return Ok(Behind::Record);
         }
-        left = left.saturating_sub(candidate_len(&bytes[at..]));
-        if left == 0 {
+        let len = candidate_len(&bytes[at..]);
+        if left <= len {
             return Ok(Behind::Unsearched);
         }
+        left -= len;
     }
     Ok(Behind::Nothing)
 }
 
 // How many bytes are read where these may begin with a record.
-fn candidate_len(bytes: &[u8]) -> usize {
+fn candidate_len(bytes: &[u8]) -> usize
+    ensures value { result ≡ headed_len bytes.now }
+{
     match decode_header(bytes) {
         Ok(header) if header.len <= bytes.len() => header.len,
         _ => 0,

@@ -1,5 +1,5 @@
 //! What an opening cuts off of log files.
-ghost use Rattle.std.specs.Prelude.{◌≡◌, ◌++◌, ◌⊎◌, [], None, Some, drop, map, take, if◌then◌else◌, IfErr, IfOk, OnOk};
+ghost use Rattle.std.specs.Prelude.{◌≡◌, ◌++◌, [], None, Some, drop, map, take, if◌then◌else◌, IfErr, IfOk, OnOk};
 ghost use Rattle.std.specs.Option.{option_map};
 ghost use Rattle.std.specs.String.{string_bytes};
 ghost use Rattle.raft_base.specs.declared.errors.Fault.TheVariants.{Memory};
@@ -8,6 +8,7 @@ ghost use Rattle.raft_env.specs.Refusal.{FailsAt, NamesFile};
 ghost use Rattle.raft_files.specs.Writer.{bytes_at};
 ghost use Rattle.raft_dump.specs.Check.{planned_stop};
 ghost use Rattle.raft_inspect.specs.Cuts.{IsToldOf, IsToldWhy, cut_as, cuts_in, place_in, place_of};
+ghost use Rattle.raft_inspect.specs.Failing.{IsFailing};
 
 use crate::behind::{Behind, search_behind};
 use crate::queue_files::QueueFiles;
@@ -53,8 +54,8 @@ impl Cut {
         is_tolerant: bool,
         is_last: bool,
     ) -> Result<Option<Cut>, AllocError>
-        ensures value { IfOk result (λ cut. option_map place_of cut
-            ≡ cut_as (planned_stop is_tolerant check.now.end check.now.stop) file.now check.now) }
+        ensures value { IfOk result (λ cut. option_map place_of cut ≡ cut_as
+            (planned_stop is_tolerant check.now.end check.now.stop) is_last file.now check.now) }
     {
         match &check.stop {
             None => Ok(None),
@@ -65,7 +66,7 @@ impl Cut {
 
     fn broken(file: &LogFile, check: &FileCheck, is_last: bool) -> Result<Option<Cut>, AllocError>
         ensures value { IfOk result (λ cut. option_map place_of cut
-            ≡ (if check.now.zeros then None else Some (place_in file.now check.now))) }
+            ≡ (if check.now.zeros then None else Some (place_in is_last file.now check.now))) }
     {
         if check.zeros {
             return Ok(None);
@@ -75,7 +76,7 @@ impl Cut {
 
     // From where its reading ends on.
     fn new(file: &LogFile, check: &FileCheck, is_last: bool) -> Result<Cut, AllocError>
-        ensures value { IfOk result (IsToldOf file.now check.now) }
+        ensures value { IfOk result (IsToldOf is_last file.now check.now) }
     {
         Ok(Cut {
             id: file.id,
@@ -156,9 +157,10 @@ impl QueueFiles {
 /// What an opening in a mode cuts off of the files of a queue; nothing where it fails. Zeros that were made ahead hold
 /// nothing, and aren't told.
 pub fn cuts_of(alloc: Global, found: &QueueFiles, mode: RecoveryMode) -> Result<Vec<Cut>, Fault>
-    ensures value { IfOk result (λ cuts. (map place_of cuts.items ≡ [])
-        ⊎ (map place_of cuts.items ≡ cuts_in mode (drop found.now.passed found.now.files.items)
-        (drop found.now.passed found.now.checks.items))) }
+    ensures fails { IfOk result (λ cuts. IsFailing mode found.now → map place_of cuts.items ≡ []) }
+    ensures cuts { IfOk result (λ cuts. ¬ IsFailing mode found.now → map place_of cuts.items
+        ≡ cuts_in mode (drop found.now.passed found.now.files.items)
+        (drop found.now.passed found.now.checks.items)) }
     ensures memory { IfErr result (λ e. e ≡ Memory) }
 {
     let mut cuts = Vec::new(alloc);

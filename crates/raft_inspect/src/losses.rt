@@ -1,5 +1,5 @@
 //! What an opening of both queues would lose.
-ghost use Rattle.std.specs.Prelude.{◌≡◌, ◌++◌, ◌⊎◌, ◌↔◌, ◌||◌, ◌<◌, [], drop, false, map, true, Contains, IfErr, IfOk};
+ghost use Rattle.std.specs.Prelude.{◌≡◌, ◌++◌, ◌+◌, ◌-◌, ◌^◌, ◌⊎◌, ◌↔◌, ◌||◌, [], drop, false, map, max, min, suc, true, Contains, IfErr, IfOk};
 ghost use Rattle.std.specs.List.{cons_option};
 ghost use Rattle.std.specs.String.{string_bytes};
 ghost use Rattle.raft_base.specs.declared.errors.Fault.TheVariants.{Memory};
@@ -163,35 +163,39 @@ impl QueueFiles {
 }
 
 impl Passed {
-    /// Those that hold something of the files that an opening of a queue passes over, which are by
-    /// number.
+    /// Those that hold something of the files that an opening of a queue passes over.
     pub fn of(queue: LogQueue, checks: &[FileCheck]) -> Option<Passed>
         ensures told { IsPassedTold queue checks.now result }
     {
-        let last = checks.last()?.id.seq;
         let mut passed = Passed {
             queue,
             files: 0,
             bytes: 0,
-            first: last,
-            last,
-            missing: last.saturating_add(1),
+            first: u64::MAX,
+            last: 0,
+            missing: 0,
         };
         for check in checks {
             passed.add(check);
         }
         if passed.files == 0 {
-            None
-        } else {
-            Some(passed)
+            return None;
         }
+        passed.missing = passed.last.saturating_add(1);
+        Some(passed)
     }
 
     fn add(&mut self, check: &FileCheck)
         ensures queue { self.new.queue ≡ self.old.queue }
-        ensures adds_none { holds_nothing check.now ≡ true → self.new.files ≡ self.old.files }
-        ensures adds_one { holds_nothing check.now ≡ false → 0 < self.new.files }
+        ensures last { self.new.last ≡ max self.old.last check.now.id.seq }
+        ensures adds_none { holds_nothing check.now ≡ true → (self.new.files ≡ self.old.files)
+            × (self.new.bytes ≡ self.old.bytes) × (self.new.first ≡ self.old.first) }
+        ensures adds_one { holds_nothing check.now ≡ false
+            → (self.new.files ≡ min (suc self.old.files) (2 ^ 64 - 1))
+            × (self.new.bytes ≡ min (self.old.bytes + check.now.len) (2 ^ 64 - 1))
+            × (self.new.first ≡ min self.old.first check.now.id.seq) }
     {
+        self.last = self.last.max(check.id.seq);
         if holds_nothing(check) {
             return;
         }

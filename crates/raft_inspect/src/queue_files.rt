@@ -1,14 +1,18 @@
 //! The log files of a queue, and what can be read of them.
-ghost use Rattle.std.specs.Prelude.{◌≡◌, Contains, IfErr, IfOk, drop, true};
-ghost use Rattle.std.specs.List.Sorted.{IsPermutation};
+ghost use Rattle.std.specs.Prelude.{◌≡◌, ◌↔◌, ◌++◌, [], IfErr, IfOk, OnOk, drop, map, slice_get, true, if◌then◌else◌};
+ghost use Rattle.std.specs.List.{filter_map};
+ghost use Rattle.std.specs.List.Sorted.{IsNonDecreasingBy, IsPermutation};
 ghost use Rattle.raft_base.specs.declared.errors.Fault.TheVariants.{Memory};
+ghost use Rattle.raft_env.specs.Directory.{names_in};
 ghost use Rattle.raft_env.specs.Moments.{OnlyReads};
-ghost use Rattle.raft_dump.specs.Check.{plan_of};
-ghost use Rattle.raft_dump.specs.declared.plan.Planned.TheVariants.{Fail};
+ghost use Rattle.raft_dump.specs.Check.{AreLastToRise, numbers_of, plan_of};
+ghost use Rattle.raft_dump.specs.LogFiles.{file_named, place_of};
 ghost use Rattle.raft_inspect.specs.Checks.{AreChecksOf, IsReadFault};
+ghost use Rattle.raft_inspect.specs.Failing.{IsFailing, is_doubled, number_before};
 
+use crate::kept::add_folder;
 use raft_config::RecoveryMode;
-use raft_dump::{FileCheck, LogFile, Planned, check_file, log_files, passed_over, plan_opening};
+use raft_dump::{FileCheck, LogFile, Planned, check_file, passed_over, plan_opening};
 use raft_env::FileSystem;
 use raft_records::{Fault, LogQueue};
 use std::alloc::{AllocError, Global};
@@ -30,15 +34,18 @@ pub fn inspect<F: FileSystem>(
     folders: &[&str],
     queue: LogQueue,
 ) -> Result<QueueFiles, Fault>
-    ensures found { IfOk result (λ found. found.queue ≡ queue) }
+    ensures found { IfOk result (λ found. (found.queue ≡ queue)
+        × AreLastToRise (numbers_of found.checks.items) found.passed) }
     ensures value { IfOk result (λ found. AreChecksOf (F.directory file_system.old)
         found.files.items found.checks.items) }
     ensures unchanged { OnlyReads F.directory F.moments F.refusals_of file_system.old
         file_system.new }
+    ensures cause { IfErr result (IsReadFault (F.refusals_of file_system.old)
+        (F.refusals_of file_system.new)) }
 {
     let mut files = Vec::new(alloc);
     for folder in folders {
-        add_files(alloc, file_system, folder, queue, &mut files)?;
+        add_there(alloc, folder, queue, &mut files, file_system)?;
     }
     QueueFiles::sort(&mut files)?;
     let checks = checks_of(alloc, file_system, &files)?;
@@ -66,37 +73,38 @@ pub(crate) fn checks_of<F: FileSystem>(
     Ok(checks)
 }
 
-fn add_files<F: FileSystem>(
+// Adds those in a folder, where it is there.
+fn add_there<F: FileSystem>(
     alloc: Global,
-    file_system: &mut F,
     folder: &str,
     queue: LogQueue,
     files: &mut Vec<LogFile>,
+    file_system: &mut F,
 ) -> Result<(), Fault>
+    ensures value { IfOk result (λ _. map place_of files.new.items ≡ map place_of files.old.items
+        ++ (if (F.directory file_system.old).is_folder folder.now
+        then filter_map (file_named folder.now queue)
+        (names_in folder.now (F.directory file_system.old)) else [])) }
     ensures unchanged { OnlyReads F.directory F.moments F.refusals_of file_system.old
         file_system.new }
+    ensures cause { IfErr result (IsReadFault (F.refusals_of file_system.old)
+        (F.refusals_of file_system.new)) }
 {
-    if !file_system.is_dir(folder) {
-        return Ok(());
+    if file_system.is_dir(folder) {
+        add_folder(alloc, folder, queue, files, file_system)
+    } else {
+        Ok(())
     }
-    let names = match file_system.list(folder) {
-        Ok(names) => names,
-        Err(fault) => return Err(fault.with_path(alloc, folder)),
-    };
-    for file in log_files(alloc, folder, &names)? {
-        if file.id.queue == queue {
-            files.push(file)?;
-        }
-    }
-    Ok(())
 }
 
 impl QueueFiles {
     /// Puts files of one queue in the order of their numbers.
     pub fn sort(files: &mut Vec<LogFile>) -> Result<(), AllocError>
         ensures unchanged { IsPermutation files.old.items files.new.items }
+        ensures sorted { OnOk result (IsNonDecreasingBy (λ file. file.id.seq) files.new.items) }
     {
-        files.sort_by_key(|file| file.id.seq)
+        files.sort_by_key(|file| file.id.seq)?;
+        Ok(())
     }
 
     /// How many of files by number an opening passes over: those before the last ones whose numbers
@@ -117,6 +125,7 @@ impl QueueFiles {
     pub fn new(queue: LogQueue, files: Vec<LogFile>, checks: Vec<FileCheck>) -> QueueFiles
         ensures found { (result.queue ≡ queue) × (result.files ≡ files) }
         ensures read { result.checks ≡ checks }
+        ensures passed { AreLastToRise (numbers_of checks.items) result.passed }
     {
         let passed = passed_over(&checks);
         QueueFiles {
@@ -161,23 +170,32 @@ impl QueueFiles {
     }
 
     /// The number of the file before the one at a place.
-    pub fn number_before(&self, place: usize) -> Option<u64> {
-        Some(self.checks.get(place.checked_sub(1)?)?.id.seq)
+    pub fn number_before(&self, place: usize) -> Option<u64>
+        ensures value { result ≡ number_before (numbers_of self.now.checks.items) place }
+    {
+        self.number_at(place.checked_sub(1)?)
+    }
+
+    // The number of the file at a place.
+    fn number_at(&self, place: usize) -> Option<u64>
+        ensures value { result ≡ slice_get (numbers_of self.now.checks.items) place }
+    {
+        self.checks.get(place).map(|check| check.id.seq)
     }
 
     /// Whether an opening finds two files of the number of the first one that it keeps, and fails.
-    pub fn is_doubled(&self) -> bool {
-        match (self.number_before(self.passed), self.kept_checks().first()) {
-            (Some(before), Some(first)) => before == first.id.seq,
+    pub fn is_doubled(&self) -> bool
+        ensures value { result ≡ is_doubled self.now }
+    {
+        match (self.number_before(self.passed), self.number_at(self.passed)) {
+            (Some(before), Some(first)) => before == first,
             _ => false,
         }
     }
 
     /// Whether an opening in a mode fails for what the files hold, or for two of one number.
     pub fn fails(&self, alloc: Global, mode: RecoveryMode) -> Result<bool, Fault>
-        ensures planned { IfOk result (λ fails.
-            Contains (plan_of mode (drop self.now.passed self.now.checks.items)) Fail
-            → fails ≡ true) }
+        ensures value { IfOk result (λ fails. fails ≡ true ↔ IsFailing mode self.now) }
         ensures memory { IfErr result (λ e. e ≡ Memory) }
     {
         let plan = self.plan(alloc, mode)?;
