@@ -3,8 +3,11 @@
 
 #include <errno.h>
 #include <pthread.h>
+#include <stdio.h>
 #include <sys/stat.h>
+#include <sys/syscall.h>
 #include <sys/types.h>
+#include <unistd.h>
 
 atomic_int faults_left, faults_orders_left, faults_syncs;
 int faults_error = EIO;
@@ -55,6 +58,30 @@ void faults_hold_syncs(bool holds) { hold(&syncs, holds); }
 void faults_await_sync(void) { await(&syncs); }
 void faults_hold_orders(bool holds) { hold(&orders, holds); }
 void faults_await_order(void) { await(&orders); }
+
+int faults_thread(void) { return (int)syscall(SYS_gettid); }
+
+/* Whether a thread sleeps, as one does that waits for another. */
+static bool sleeps(int thread) {
+    char path[60], state = 0;
+    snprintf(path, sizeof path, "/proc/self/task/%d/stat", thread);
+    FILE *stat = fopen(path, "r");
+    bool is_read = stat && fscanf(stat, "%*d (%*[^)]) %c", &state) == 1;
+    if (stat) fclose(stat);
+    return is_read && state == 'S';
+}
+
+bool faults_await_thread(atomic_int *thread, atomic_bool *has_ended) {
+    enum { PAUSE = 1000, PATIENCE = 30000 };
+    int asleep = 0;
+    for (int left = PATIENCE; asleep < 3 && !atomic_load(has_ended); left--) {
+        if (!left) return false;
+        int number = atomic_load(thread);
+        asleep = number && sleeps(number) ? asleep + 1 : 0;
+        usleep(PAUSE);
+    }
+    return true;
+}
 
 ssize_t __real_pwrite(int fd, const void *bytes, size_t len, off_t at);
 ssize_t __wrap_pwrite(int fd, const void *bytes, size_t len, off_t at) {

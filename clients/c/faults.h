@@ -27,4 +27,11 @@ void faults_await_sync(void);
 void faults_hold_orders(bool holds);
 void faults_await_order(void);
 
+/* The number of this thread. */
+int faults_thread(void);
+
+/* Waits until a thread, whose number stands there once it runs, waits for another one, or has ended:
+ * false where it doesn't in half a minute. */
+bool faults_await_thread(atomic_int *thread, atomic_bool *has_ended);
+
 #endif

@@ -1,5 +1,6 @@
 /* Rounds behind a sync that is held up: `held FOLDER ROWS` plays the rows of held.txt, which says
- * what they are, and a close beside calls that wait. It prints "ok", or what was wrong. */
+ * what they are, then a close beside calls that wait, those that come late, and a read beside a purge.
+ * It prints "ok", or what was wrong. */
 #include "faults.h"
 #include "raftlog.h"
 
@@ -7,7 +8,6 @@
 #include <stdio.h>
 #include <stdlib.h>
 #include <string.h>
-#include <sys/syscall.h>
 #include <unistd.h>
 
 static const char *row = "the close";
@@ -22,7 +22,7 @@ static const char *row = "the close";
 
 enum { HELD = 1, OTHER = 2, LATE = 3, FIRST = 10, MOST = 512 };
 
-/* How long is looked whether a call waits, in us, and how often it may not yet. */
+/* How long is looked whether a close has begun, in us, and how often it may not yet. */
 enum { PAUSE = 1000, PATIENCE = 30000 };
 
 struct call {
@@ -70,7 +70,7 @@ static void tells_why(struct call *call) {
 
 static void *make_call(void *with) {
     struct call *call = with;
-    atomic_store(&call->tid, (int)syscall(SYS_gettid));
+    atomic_store(&call->tid, faults_thread());
     switch (call->kind) {
     case 'w':
     case 'x': call->code = write_one(call); break;
@@ -92,26 +92,10 @@ static void begin(struct call *call) {
     pthread_attr_destroy(&small);
 }
 
-/* Whether a thread sleeps, as one does that waits for another. */
-static bool sleeps(int tid) {
-    char path[60], state = 0;
-    snprintf(path, sizeof path, "/proc/self/task/%d/stat", tid);
-    FILE *stat = fopen(path, "r");
-    bool is_read = stat && fscanf(stat, "%*d (%*[^)]) %c", &state) == 1;
-    if (stat) fclose(stat);
-    return is_read && state == 'S';
-}
-
 /* Waits until a call waits for another one, or has ended: so those that begin after it come after
  * it. */
 static void settle(struct call *call) {
-    int asleep = 0;
-    for (int left = PATIENCE; asleep < 3 && !atomic_load(&call->has_ended); left--) {
-        CHECK(left > 0);
-        int tid = atomic_load(&call->tid);
-        asleep = tid && sleeps(tid) ? asleep + 1 : 0;
-        usleep(PAUSE);
-    }
+    CHECK(faults_await_thread(&call->tid, &call->has_ended));
 }
 
 static void end(struct call *call) { CHECK(!pthread_join(call->thread, NULL)); }
@@ -185,6 +169,13 @@ static void finds(const char *folder, const struct call *calls, int count) {
     CHECK(!raftlog_close(log));
 }
 
+/* Who reads a log that has failed is told why. */
+static void fails_to_read(raftlog *log) {
+    struct call read = {.log = log, .group = OTHER, .kind = 'o'};
+    make_call(&read);
+    CHECK(read.code == RAFTLOG_FAILED);
+}
+
 static void play(const char *folder, const char *line) {
     static struct call held, calls[MOST];
     char *words[5], *rest, *copy = strdup(line);
@@ -208,6 +199,7 @@ static void play(const char *folder, const char *line) {
     end(&held);
     for (int i = 0; i < count; i++) end(&calls[i]);
     atomic_store(&faults_left, 0);
+    if (fails) fails_to_read(log);
     answers_are(words[2], &held, calls, count);
     CHECK(!raftlog_stats(log, &after) && after.rounds - before.rounds == (uint64_t)atoi(words[3]));
     if (!strchr(words[4], '?')) CHECK(atomic_load(&faults_syncs) - syncs == atoi(words[4]));
@@ -294,6 +286,41 @@ static void come_late(const char *folder) {
     drop(folder);
 }
 
+/* A read of any group waits while a purge is inside the proved part, and not while its sync runs. One
+ * of the Append queue goes there several times. */
+static void read_beside_purge(const char *folder) {
+    static struct call calls[4];
+    char kinds[] = "p o o o";
+    raftlog *log = open_at(folder);
+    struct call put = {.log = log, .group = OTHER, .kind = 'w', .size = 1};
+    make_call(&put);
+    int count = calls_of(kinds, log, calls);
+    faults_hold_orders(true);
+    begin(&calls[0]);
+    faults_await_order();
+    begin(&calls[1]);
+    settle(&calls[1]);
+    CHECK(!atomic_load(&calls[1].has_ended));
+    faults_hold_syncs(true);
+    faults_hold_orders(false);
+    faults_await_sync();
+    end(&calls[1]);
+    begin(&calls[2]);
+    end(&calls[2]);
+    faults_hold_orders(true);
+    faults_hold_syncs(false);
+    faults_await_order();
+    begin(&calls[3]);
+    settle(&calls[3]);
+    CHECK(!atomic_load(&calls[3].has_ended) && !atomic_load(&calls[0].has_ended));
+    faults_hold_orders(false);
+    end(&calls[3]);
+    end(&calls[0]);
+    for (int i = 0; i < count; i++) CHECK(!calls[i].code);
+    CHECK(!raftlog_close(log));
+    drop(folder);
+}
+
 int main(int argc, char **argv) {
     char line[400];
     FILE *rows = argc == 3 ? fopen(argv[2], "r") : NULL;
@@ -311,6 +338,8 @@ int main(int argc, char **argv) {
     close_beside(argv[1]);
     row = "those that come late";
     come_late(argv[1]);
+    row = "a read beside a purge";
+    read_beside_purge(argv[1]);
     printf("ok, %d rows\n", played);
     return 0;
 }

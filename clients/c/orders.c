@@ -6,6 +6,7 @@
 #include <stdio.h>
 #include <stdlib.h>
 #include <sys/stat.h>
+#include <time.h>
 #include <unistd.h>
 
 /* Bytes of a purge's orders that are gathered before they are carried out; less in tests. */
@@ -159,11 +160,19 @@ static int write_file(raftlog *log, const uint8_t *bytes, size_t len, uint64_t a
     return write_at(log->file, bytes, len, at);
 }
 
+static uint64_t now_ns(void) {
+    struct timespec t;
+    clock_gettime(CLOCK_MONOTONIC, &t);
+    return (uint64_t)t.tv_sec * 1000000000u + (uint64_t)t.tv_nsec;
+}
+
 static int sync_file(raftlog *log) {
+    uint64_t began = now_ns();
+    int error = fdatasync(log->file) ? errno : 0;
     parts_add(&log->counts.syncs, 1);
-    if (fdatasync(log->file)) return errno;
-    heap_synced(&log->behind);
-    return 0;
+    parts_add(&log->counts.sync_ns, now_ns() - began);
+    if (!error) heap_synced(&log->behind);
+    return error;
 }
 
 /* Whether a file can come to a place: nothing stands there, or a plain file, which was read. */

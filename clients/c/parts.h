@@ -115,7 +115,7 @@ struct raftlog {
     atomic_int reading;                    /* reads that have begun, and PARTS_CLOSING */
     _Atomic uint64_t lost;                 /* the round whose orders failed; none: UINT64_MAX */
     struct parts_counts {
-        _Atomic uint64_t changes, synced_changes, largest_round, syncs, bytes, sync_ns;
+        _Atomic uint64_t changes, batches, synced_changes, largest_round, syncs, bytes, sync_ns;
     } counts;
     pthread_mutex_t lock;
     raft_c_handle handle; /* of a log, from its opening to its close */

@@ -100,6 +100,7 @@ static int open_log(const char *folder, const char *settings, raftlog_progress *
     if (code) return let_go(log), code;
     atomic_store(&log->counts.syncs, 0);
     atomic_store(&log->counts.bytes, 0);
+    atomic_store(&log->counts.sync_ns, 0);
     /* A failure of a log that was closed, and had this address. */
     parts_fail(log, RAFTLOG_OK, NULL);
     *out = log;
@@ -145,6 +146,7 @@ int raftlog_stats(raftlog *log, raftlog_counts *counts) {
     if (!parts_begin_read(log)) return parts_fail(log, RAFTLOG_FAILED, NULL);
     /* In this turn, so that no part is greater than its whole. */
     counts->sync_ns = log->counts.sync_ns;
+    counts->batches = log->counts.batches;
     counts->synced_changes = log->counts.synced_changes;
     counts->largest_round = log->counts.largest_round;
     counts->changes = log->counts.changes;

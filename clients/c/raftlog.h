@@ -32,13 +32,16 @@
  * one that asked for no sync and one that was refused: the next opening finds all that was answered
  * before, and of this round none, the first ones or all. Later calls are answered RAFTLOG_FAILED.
  *
- * Reads don't wait for the disk. A read sees each change that was answered before it began. It may see
- * one that isn't answered yet, whole; then it is answered once that change's round is over, and as
- * RAFTLOG_FAILED where that failed: so what a read tells of a synced write survives a crash as the
- * write's own answer does. It waits only where the round changes its group, or one of the few that share
- * its place in a table of 4096 (`raftlog_groups`: any group), and for one round at most.
- *   A purge that writes more than RAFTLOG_PURGE_BYTES carries the first of them out before it goes on,
- * so that they needn't stand in memory: reads that begin then wait until it is over.
+ * Reads. A read sees each change that was answered before it began. It may see one that isn't answered
+ * yet, whole; then it is answered once that change's round is over, and as RAFTLOG_FAILED where that
+ * failed: so what a read tells of a synced write survives a crash as the write's own answer does. For
+ * changes of files and a sync it waits only where the round changes its group, or one of the few that
+ * share its place in a table of 4096 (`raftlog_groups`: any group), and for one round at most.
+ *   But calls go to the log itself in turn, and there a read of any group waits for a read of entries that
+ * aren't in memory, and until a purge has moved all that it moves (it reads cold entries from the disk,
+ * and what it writes but for the last RAFTLOG_PURGE_BYTES is carried out meanwhile, so that it needn't
+ * stand in memory). `raftlog_must_rewrite_append_queue` lets reads in after each RAFTLOG_MOVED_BYTES, and
+ * where one group has more after that group; `raftlog_must_rewrite_append_groups` lets in writes too.
  *
  * What is proved, of the functions behind these (crates/raft_c): of each code, what the log has done and
  * what it holds then; of a failure, why it comes; and that at each moment inside a call a crash leaves
@@ -100,11 +103,13 @@ enum {
     RAFTLOG_FOLDER = 32
 };
 
-/* The most that a round takes, and that a purge writes before it waits for the disk. */
+/* The most that a round takes, that a purge writes before it waits for the disk, and that one of the
+ * Append queue moves before it lets reads in. */
 enum {
     RAFTLOG_ROUND_CHANGES = 256,
     RAFTLOG_ROUND_BYTES = 1 << 20,
-    RAFTLOG_PURGE_BYTES = 1 << 26
+    RAFTLOG_PURGE_BYTES = 1 << 26,
+    RAFTLOG_MOVED_BYTES = 1 << 22
 };
 
 typedef struct raftlog raftlog;
@@ -180,15 +185,18 @@ int raftlog_close(raftlog *log);
 size_t raftlog_message(raftlog *log, char *text, size_t room);
 
 /* What a log did since it was opened, in rounds that are over. The mean number of changes that share a
- * round is changes / rounds, and that of synced ones that share a sync synced_changes / syncs. */
+ * round is changes / rounds, and a sync takes sync_ns / syncs. Where nothing is purged, and no file is
+ * full, synced_changes / syncs share a sync: a purge and a next file have syncs of their own. It may
+ * grow at its end from one RAFTLOG_VERSION to the next: a library goes with its own header. */
 typedef struct {
     uint64_t rounds;
     uint64_t changes;        /* in them: writes, syncs, compactions, purges */
     uint64_t synced_changes; /* of these, those that asked for a sync and were done */
     uint64_t largest_round;  /* the most changes of a round */
-    uint64_t syncs;          /* of log files */
+    uint64_t syncs;          /* of log files, whoever asked for them */
     uint64_t bytes;          /* that were written to log files */
-    uint64_t sync_ns;        /* that rounds with a sync were at the disk, in nanoseconds */
+    uint64_t sync_ns;        /* that these syncs took (fdatasync), in nanoseconds */
+    uint64_t batches;        /* of the changes, writes that were done */
 } raftlog_counts;
 
 /* Each number by itself is that of a moment of the call. */
@@ -285,7 +293,8 @@ int raftlog_purge_expired_files(raftlog *log, raftlog_bytes *groups);
 /* Whatever their size, of which they tell how many files of a queue are gone (`count` may be NULL): the first writes what
  * stands in the log files of the Append queue to the Rewrite queue, and drops them; the second writes what stands in those
  * of the Rewrite queue to a new one, and drops them; the third drops the files in front in which nothing stands any more,
- * of both queues, and counts those of the Append queue. A dropped file is deleted, or kept to be used again. */
+ * of both queues, and counts those of the Append queue. A dropped file is deleted, or kept to be used again.
+ * The first counts one more that it went on to meanwhile: it is short calls, as below, and then a whole one. */
 int raftlog_must_rewrite_append_queue(raftlog *log, uint64_t *count);
 int raftlog_must_rewrite_rewrite_queue(raftlog *log, uint64_t *count);
 int raftlog_must_purge_all_stale(raftlog *log, uint64_t *count);

@@ -8,8 +8,12 @@
 #include <linux/futex.h>
 #include <stdlib.h>
 #include <sys/syscall.h>
-#include <time.h>
 #include <unistd.h>
+
+/* Bytes that a purge of the Append queue moves before it lets reads in; less in tests. */
+#ifndef ROUNDS_MOVED
+#define ROUNDS_MOVED RAFTLOG_MOVED_BYTES
+#endif
 
 enum { WAITS, LEADS, IS_ANSWERED };
 
@@ -40,12 +44,6 @@ static int await(struct parts_change *change) {
     while ((state = atomic_load_explicit(&change->state, memory_order_acquire)) == WAITS)
         sleep_while(&change->state, WAITS);
     return state;
-}
-
-static uint64_t now_ns(void) {
-    struct timespec t;
-    clock_gettime(CLOCK_MONOTONIC, &t);
-    return (uint64_t)t.tv_sec * 1000000000u + (uint64_t)t.tv_nsec;
 }
 
 /* ---- the groups that a change changes */
@@ -96,6 +94,7 @@ static void touch_all(raftlog *log, const struct parts_change *change) {
 struct round {
     struct parts_change *first, *last;
     size_t changes, bytes; /* of batches */
+    size_t batches;        /* that are done */
     size_t synced;         /* changes that asked for a sync and are done */
 };
 
@@ -134,7 +133,7 @@ static bool take_more(raftlog *log, struct round *round) {
 /* The first of those that wait, and those behind it. Where nobody led when it came, it is the only
  * one. */
 static inline struct round take(raftlog *log, struct parts_change *first) {
-    struct round round = {first, first, 1, size_of(first), 0};
+    struct round round = {first, first, 1, size_of(first), 0, 0};
     if (first->older) take_more(log, &round);
     return round;
 }
@@ -182,6 +181,10 @@ static void end_purge(raftlog *log, bool was_random) {
     heap_expect_reads(&log->heap, was_random);
 }
 
+static const char *why(const struct parts_change *change) {
+    return change->text ? change->text : raftlog_code_text(change->code);
+}
+
 /* Hands a change to the proved part, and takes its answer, which the next call writes over: what
  * the log has done, if the round's orders are carried out. */
 static void hand_over(raftlog *log, struct parts_change *change, bool sync) {
@@ -197,6 +200,8 @@ static void hand_over(raftlog *log, struct parts_change *change, bool sync) {
     parts_leave();
     if (change->code) {
         change->text = parts_answered_text(log);
+        /* An order that can't be given fails the round. Who reads then finds why, under the lock. */
+        if (change->code == RAFTLOG_IO) parts_break(log, why(change));
     } else if (change->kind == PARTS_PURGE_EXPIRED) {
         uint64_t len = raft_c_answer(&log->handle, change->answer->data, change->answer->room);
         if (!parts_take_answer(log, change->answer, len)) change->code = RAFTLOG_NO_MEMORY;
@@ -215,7 +220,7 @@ static void fail(struct parts_change *change, int code, const char *text) {
 /* What the round changed in memory is given up with the log, and so are its refusals, which spoke
  * of it: nobody was answered. */
 static void give_up(raftlog *log, struct round *round) {
-    round->synced = 0;
+    round->batches = round->synced = 0;
     pthread_mutex_lock(&log->lock);
     raft_c_settle(&log->handle, false);
     pthread_mutex_unlock(&log->lock);
@@ -224,22 +229,18 @@ static void give_up(raftlog *log, struct round *round) {
         fail(at, RAFTLOG_IO, log->broken);
 }
 
-/* Carries the orders of a round out: whether they all were. */
-static inline bool obey(raftlog *log, bool syncs) {
-    if (!syncs) return !parts_obey(log);
-    uint64_t began = now_ns();
-    bool is_done = !parts_obey(log);
-    parts_add(&log->counts.sync_ns, now_ns() - began);
-    return is_done;
-}
-
 /* One sync for all of the round: false where it is refused, which fails the log. */
 static bool sync_round(raftlog *log) {
     struct parts_change sync = {.kind = PARTS_SYNC, .sync = true};
     hand_over(log, &sync, true);
-    if (sync.code) parts_break(log, sync.text ? sync.text : raftlog_code_text(sync.code));
+    if (sync.code) parts_break(log, why(&sync));
     free(sync.text);
     return !sync.code;
+}
+
+static inline void note_done(struct round *round, const struct parts_change *change) {
+    round->batches += parts_is_batch(change) && !change->code;
+    round->synced += change->sync && !change->code;
 }
 
 /* A round of several: all of them have their answers then. Those that were answered last come back
@@ -248,11 +249,38 @@ static void carry_out_many(raftlog *log, struct round *round) {
     for (struct parts_change *at = round->first;; at = at->newer) {
         /* A sync is the round's own. */
         if (at->kind != PARTS_SYNC) hand_over(log, at, false);
-        round->synced += at->sync && !at->code;
+        note_done(round, at);
         if (at == round->last && !(round->synced && take_more(log, round))) break;
     }
     bool is_synced = !round->synced || sync_round(log);
-    if (!is_synced || !obey(log, round->synced)) give_up(log, round);
+    if (!is_synced || parts_obey(log)) give_up(log, round);
+}
+
+/* Hands a change over that is a round of its own, and carries its orders out: false where one fails,
+ * which fails the log. */
+static bool carry_out_one(raftlog *log, struct parts_change *change) {
+    hand_over(log, change, change->sync);
+    if (parts_obey(log)) return false;
+    if (parts_is_purge(change)) heap_catch_up(&log->heap, &log->behind);
+    return true;
+}
+
+/* What a purge of the Append queue moves is moved in short calls before it, so that reads come between
+ * them: the purge itself finds little. It ends where one is refused. */
+static bool move_ahead(raftlog *log, struct parts_change *purge) {
+    struct parts_change some = {.found = 0, .found_too = UINT64_MAX};
+    bool is_done;
+    do {
+        uint64_t from = some.found, watermark = some.found_too;
+        some = (struct parts_change){.kind = PARTS_REWRITE_GROUPS,
+                                     .watermark = watermark,
+                                     .from = from,
+                                     .budget = ROUNDS_MOVED};
+        is_done = carry_out_one(log, &some);
+    } while (is_done && !some.code && some.found);
+    purge->code = some.code;
+    purge->text = some.text;
+    return is_done;
 }
 
 static inline void carry_out(raftlog *log, struct round *round) {
@@ -261,10 +289,10 @@ static inline void carry_out(raftlog *log, struct round *round) {
         for (struct parts_change *at = first; at; at = after(round, at))
             fail(at, RAFTLOG_FAILED, log->broken);
     } else if (!first->older || is_alone(first)) {
-        hand_over(log, first, first->sync);
-        round->synced = first->sync && !first->code;
-        if (!obey(log, round->synced)) give_up(log, round);
-        else if (parts_is_purge(first)) heap_catch_up(&log->heap, &log->behind);
+        bool is_done = first->kind != PARTS_REWRITE_APPEND || move_ahead(log, first);
+        if (is_done && !first->code) is_done = carry_out_one(log, first);
+        note_done(round, first);
+        if (!is_done) give_up(log, round);
     } else {
         carry_out_many(log, round);
     }
@@ -273,6 +301,7 @@ static inline void carry_out(raftlog *log, struct round *round) {
 static inline void count(raftlog *log, const struct round *round) {
     struct parts_counts *counts = &log->counts;
     parts_add(&counts->changes, round->changes);
+    if (round->batches) parts_add(&counts->batches, round->batches);
     if (round->synced) parts_add(&counts->synced_changes, round->synced);
     uint64_t largest = atomic_load_explicit(&counts->largest_round, memory_order_relaxed);
     if (largest < round->changes) parts_add(&counts->largest_round, round->changes - largest);

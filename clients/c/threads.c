@@ -1,6 +1,6 @@
-/* Many threads on one log: `threads FOLDER [storm|kill|fail]..`, all of them without a word.
- * Storms of mixed calls, processes that are killed, and file calls that fail in the middle of
- * rounds: what was answered is found. It prints "ok", or what was wrong. */
+/* Many threads on one log: `threads FOLDER [storm|close|kill|fail]..`, all of them without a word.
+ * Storms of mixed calls, closes in the middle of them, processes that are killed, and file calls that
+ * fail in the middle of rounds: what was answered is found. It prints "ok", or what was wrong. */
 #include "faults.h"
 #include "raftlog.h"
 
@@ -59,6 +59,8 @@ struct writer {
     uint64_t first;             /* entry of the group */
     _Atomic uint64_t *answered; /* entries */
     int code;                   /* by which it ended */
+    atomic_int tid;             /* of its thread, once that runs, where the log is closed beside it */
+    atomic_bool has_ended;
     pthread_t thread;
 };
 
@@ -298,11 +300,96 @@ static void be_killed(const char *folder, int times) {
     printf("killed %d times, %llu answered entries found\n", times, (unsigned long long)all);
 }
 
+/* ---- a close in the middle of a storm */
+
+/* No call begins any more. */
+static atomic_bool is_over;
+
+/* One call of many: an entry, and then others. */
+static int call_once(struct writer *w, uint64_t i) {
+    uint64_t index;
+    if (i % 3 == 0) {
+        int code = write_entry(w, i / 3 + 1, w->group % 2);
+        if (!code) atomic_store(w->answered, i / 3 + 1);
+        return code;
+    }
+    if (i % 3 == 1) return raftlog_last_index(w->log, w->group, &index);
+    if (i % 24 == 5 && w->group == 1) return raftlog_must_rewrite_append_queue(w->log, NULL);
+    if (i % 24 == 14) return raftlog_sync(w->log);
+    return raftlog_get(w->log, w->group, "last", 4, &w->bytes);
+}
+
+static void *call_until_closed(void *with) {
+    struct writer *w = with;
+    w->batch = raftlog_batch_new();
+    atomic_store(&w->tid, faults_thread());
+    for (uint64_t i = 0; !w->code && !atomic_load(&is_over); i++) w->code = call_once(w, i);
+    CHECK(!w->code || w->code == RAFTLOG_FAILED);
+    raftlog_bytes_free(&w->bytes);
+    raftlog_batch_free(w->batch);
+    atomic_store(&w->has_ended, true);
+    return NULL;
+}
+
+static void *close_it(void *log) {
+    CHECK(raftlog_close(log) == 0);
+    return NULL;
+}
+
+/* Begins every second one. */
+static void begin(struct writer *w, uint64_t first, uint64_t threads) {
+    for (uint64_t t = first; t < threads; t += 2)
+        CHECK(!pthread_create(&w[t].thread, NULL, call_until_closed, &w[t]));
+}
+
+/* Begins a close behind a sync that is held up, and then half of the threads, and lets the sync go on
+ * once each call that has begun waits: each is answered, or refused and does nothing. */
+static void close_behind_sync(raftlog *log, struct writer *w, uint64_t threads) {
+    raftlog_counts counts;
+    pthread_t closer;
+    faults_hold_syncs(true);
+    faults_await_sync();
+    CHECK(!pthread_create(&closer, NULL, close_it, log));
+    while (raftlog_stats(log, &counts) != RAFTLOG_FAILED) usleep(1000);
+    begin(w, 1, threads);
+    for (uint64_t t = 0; t < threads; t++)
+        CHECK(faults_await_thread(&w[t].tid, &w[t].has_ended));
+    atomic_store(&is_over, true);
+    faults_hold_syncs(false);
+    CHECK(!pthread_join(closer, NULL));
+    for (uint64_t t = 0; t < threads; t++) CHECK(!pthread_join(w[t].thread, NULL));
+}
+
+static void close_in_storm(const char *folder, uint64_t threads, useconds_t pause) {
+    struct writer w[MOST];
+    _Atomic uint64_t answered[MOST];
+    raftlog *log = open_at(folder);
+    uint64_t last, refused = 0;
+    atomic_store(&is_over, false);
+    for (uint64_t t = 0; t < threads; t++) {
+        atomic_store(&answered[t], 0);
+        w[t] = (struct writer){.log = log, .group = t + 1, .answered = &answered[t]};
+    }
+    begin(w, 0, threads);
+    usleep(pause);
+    close_behind_sync(log, w, threads);
+    log = open_at(folder);
+    finds(log, threads, answered);
+    for (uint64_t t = 0; t < threads; t++) {
+        refused += w[t].code == RAFTLOG_FAILED;
+        int code = raftlog_last_index(log, t + 1, &last);
+        CHECK(answered[t] ? !code && last == answered[t] : code == RAFTLOG_ABSENT);
+    }
+    CHECK(refused >= threads / 2 && !raftlog_close(log));
+    drop(folder);
+    printf("closed beside %2d threads, of which %d were refused\n", (int)threads, (int)refused);
+}
+
 int main(int argc, char **argv) {
-    char *all[] = {"storm", "kill", "fail"};
-    if (argc < 2) return fputs("threads FOLDER [storm|kill|fail]..\n", stderr), 2;
+    char *all[] = {"storm", "close", "kill", "fail"};
+    if (argc < 2) return fputs("threads FOLDER [storm|close|kill|fail]..\n", stderr), 2;
     const char *folder = argv[1];
-    int count = argc == 2 ? 3 : argc - 2;
+    int count = argc == 2 ? 4 : argc - 2;
     char **words = argc == 2 ? all : argv + 2;
     setvbuf(stdout, NULL, _IOLBF, 0);
     for (int i = 0; i < count; i++) {
@@ -311,9 +398,13 @@ int main(int argc, char **argv) {
                 storm(folder, threads, 320 / threads, true);
                 storm(folder, threads, 1280 / threads, false);
             }
+        else if (!strcmp(words[i], "close"))
+            for (useconds_t pause = 0; pause < 80000; pause += 20000)
+                for (uint64_t threads = 1; threads <= MOST; threads *= 4)
+                    close_in_storm(folder, threads, pause);
         else if (!strcmp(words[i], "kill")) be_killed(folder, 16);
         else if (!strcmp(words[i], "fail")) fail(folder);
-        else return fputs("threads FOLDER [storm|kill|fail]..\n", stderr), 2;
+        else return fputs("threads FOLDER [storm|close|kill|fail]..\n", stderr), 2;
     }
     puts("ok");
     return 0;

@@ -18,9 +18,10 @@ class _Slice(ctypes.Structure):
 class Stats(ctypes.Structure):
     """What a log did since it was opened, in rounds that are over: how many rounds and changes (writes, syncs, compactions,
     purges) there were, how many of these asked for a sync and were done, the most changes of a round, the syncs of log
-    files and the bytes written to them, and the nanoseconds that rounds with a sync were at the disk."""
+    files (whoever asked for them), the bytes written to them, the nanoseconds that these syncs took, and how many of the
+    changes were writes that were done."""
     _fields_ = [(name, c_uint64) for name in
-                ("rounds", "changes", "synced_changes", "largest_round", "syncs", "bytes", "sync_ns")]
+                ("rounds", "changes", "synced_changes", "largest_round", "syncs", "bytes", "sync_ns", "batches")]
 
     def __repr__(self):
         return "Stats(%s)" % ", ".join("%s=%d" % (name, getattr(self, name)) for name, _ in self._fields_)
@@ -152,8 +153,8 @@ class Engine:
     """`folder` None: a log in memory. The settings are TOML. A context manager; it is closed with a sync. `watch` is told how
     far the opening of a folder is, `watch(done, all)` with each file: of so many bytes, so many are read; it makes no call.
 
-    Threads may share it, but for `close`: writers that come at once share a sync, and reads don't wait for the disk
-    (raftlog.h, "Rounds")."""
+    Threads may share it, but for `close`: writers that come at once share a sync, and of these a read waits only for
+    those that change its group (raftlog.h, "Rounds")."""
 
     def __init__(self, folder=None, settings="", watch=None):
         text, self._log = ctypes.create_string_buffer(512), c_void_p()

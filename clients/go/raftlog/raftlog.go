@@ -121,7 +121,7 @@ type Entry struct {
 type Pair struct{ Key, Value []byte }
 
 // An Engine is an open log. It may be used by many goroutines: writers that come at once share a sync,
-// and reads don't wait for the disk (raftlog.h, "Rounds").
+// and of these a read waits only for those that change its group (raftlog.h, "Rounds").
 type Engine struct {
 	mutex sync.RWMutex // held by each call to read, and by Close to write
 	log   *C.raftlog
@@ -272,15 +272,17 @@ func (e *Engine) Sync() error {
 }
 
 // Stats is what a log did since it was opened, in rounds that are over. The mean number of changes that share a round is
-// Changes / Rounds, and that of synced ones that share a sync SyncedChanges / Syncs.
+// Changes / Rounds, and a sync takes SyncTime / Syncs. Where nothing is purged, and no file is full, SyncedChanges / Syncs
+// share a sync.
 type Stats struct {
 	Rounds        uint64
 	Changes       uint64        // in them: writes, syncs, compactions, purges
 	SyncedChanges uint64        // of these, those that asked for a sync and were done
 	LargestRound  uint64        // the most changes of a round
-	Syncs         uint64        // of log files
+	Syncs         uint64        // of log files, whoever asked for them
 	Bytes         uint64        // that were written to log files
-	SyncTime      time.Duration // that rounds with a sync were at the disk
+	SyncTime      time.Duration // that these syncs took
+	Batches       uint64        // of the changes, writes that were done
 }
 
 // Stats tells what the log did.
@@ -297,7 +299,7 @@ func (e *Engine) Stats() (Stats, error) {
 	return Stats{
 		Rounds: uint64(counts.rounds), Changes: uint64(counts.changes), SyncedChanges: uint64(counts.synced_changes),
 		LargestRound: uint64(counts.largest_round), Syncs: uint64(counts.syncs), Bytes: uint64(counts.bytes),
-		SyncTime: time.Duration(counts.sync_ns),
+		SyncTime: time.Duration(counts.sync_ns), Batches: uint64(counts.batches),
 	}, nil
 }
 

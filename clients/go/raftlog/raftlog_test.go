@@ -208,7 +208,8 @@ func TestRounds(t *testing.T) {
 		puts += 10 * writers
 		stats, err := log.Stats()
 		must(t, err)
-		if stats.SyncedChanges != puts || stats.Syncs == 0 || stats.Bytes == 0 || stats.SyncTime == 0 {
+		if stats.SyncedChanges != puts || stats.Batches != puts || stats.Syncs == 0 || stats.Bytes == 0 ||
+			stats.SyncTime == 0 {
 			t.Fatal(stats)
 		}
 		if stats.LargestRound > 1 && stats.Rounds < stats.Changes {

@@ -245,7 +245,8 @@ impl<'a> Parts<'a> {
 }
 
 /// What a log did since it was opened, in rounds that are over. The mean number of changes that share a
-/// round is `changes / rounds`, and that of synced ones that share a sync `synced_changes / syncs`.
+/// round is `changes / rounds`, and a sync takes `sync_time / syncs`. Where nothing is purged, and no file
+/// is full, `synced_changes / syncs` share a sync.
 #[derive(Clone, Copy, Debug, PartialEq, Eq)]
 #[non_exhaustive]
 pub struct Stats {
@@ -256,12 +257,14 @@ pub struct Stats {
     pub synced_changes: u64,
     /// The most changes of a round.
     pub largest_round: u64,
-    /// Syncs of log files.
+    /// Syncs of log files, whoever asked for them.
     pub syncs: u64,
     /// Bytes that were written to log files.
     pub bytes: u64,
-    /// How long rounds with a sync were at the disk.
+    /// How long these syncs took.
     pub sync_time: Duration,
+    /// Of the changes, writes that were done.
+    pub batches: u64,
 }
 
 /// What an opening cut off of a log file, behind the last record that could be read.
@@ -303,9 +306,9 @@ pub fn survive_bus_errors() -> Result<()> {
     }
 }
 
-/// An open log. It may be used by many threads: writers that come at once share a sync, and reads don't
-/// wait for the disk (`raftlog.h`, "Rounds"). It is closed, with a sync, when it is dropped; `close` tells
-/// whether that was done.
+/// An open log. It may be used by many threads: writers that come at once share a sync, and of these a
+/// read waits only for those that change its group (`raftlog.h`, "Rounds"). It is closed, with a sync,
+/// when it is dropped; `close` tells whether that was done.
 pub struct Engine {
     log: *mut sys::raftlog,
 }
@@ -435,6 +438,7 @@ impl Engine {
             syncs: counts.syncs,
             bytes: counts.bytes,
             sync_time: Duration::from_nanos(counts.sync_ns),
+            batches: counts.batches,
         })
     }
 

@@ -30,6 +30,7 @@ pub struct raftlog_counts {
     pub syncs: u64,
     pub bytes: u64,
     pub sync_ns: u64,
+    pub batches: u64,
 }
 
 #[repr(C)]

@@ -216,7 +216,8 @@ fn by_rounds() {
         let threads: Vec<_> = (1..=WRITERS).map(write).collect();
         threads.into_iter().for_each(|thread| thread.join().unwrap());
         let stats = log.stats().unwrap();
-        assert_eq!(stats.synced_changes, turn * 10 * WRITERS);
+        let puts = turn * 10 * WRITERS;
+        assert_eq!((stats.synced_changes, stats.batches), (puts, puts));
         assert!(stats.syncs > 0 && stats.bytes > 0 && !stats.sync_time.is_zero(), "{stats:?}");
         if stats.largest_round > 1 && stats.rounds < stats.changes {
             break;

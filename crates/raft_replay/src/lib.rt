@@ -10,6 +10,7 @@ mod leaving;
 pub mod machine;
 pub mod own_tables;
 pub mod reading;
+mod room;
 
 pub use chunk_list::AppendedChunks;
 pub use chunk_reach::{Reach, Starts};

@@ -3,7 +3,7 @@ use Rattle.std.specs.Arc.{arc_value}
 use Rattle.std.specs.declared.alloc.Global.{Global}
 use Rattle.std.specs.declared.sync.Arc.{Arc}
 use Rattle.std.specs.String.{string_bytes}
-use Rattle.std.specs.Prelude.{ℕ, suc, List, [], ◌∷◌, ◌==◌, Result, Ok, Err, Vec, option_map, if◌then◌else◌}
+use Rattle.std.specs.Prelude.{ℕ, suc, List, [], ◌∷◌, ◌==◌, Result, Ok, Err, Vec, box_value, option_map, if◌then◌else◌}
 use Rattle.raft_base.specs.Fault.{fault_code}
 use Rattle.raft_base.specs.declared.errors.Fault.{Fault}
 use Rattle.raft_base.specs.declared.errors.Fault.TheVariants as fault
@@ -46,8 +46,9 @@ abbrev pub shared_bytes : Arc (Vec ℕ Global) Global → List ℕ
 shared_bytes value = (arc_value value).items
 
 abbrev pub asked_of : Call → Asked
-asked_of (call.Write batch sync) = Write batch.items sync
-asked_of (call.WriteOnce batch pairs sync) = WriteOnce batch.items pairs.items sync
+asked_of (call.Write batch sync) = Write (box_value batch).items sync
+asked_of (call.WriteOnce batch pairs sync) =
+    WriteOnce (box_value batch).items pairs.items sync
 asked_of call.Sync = Sync
 asked_of (call.Purge barrier) = Purge barrier
 asked_of (call.Get group key) = Get group key.items

@@ -6,13 +6,13 @@ use raft_log_engine::{Fault, LogBatch};
 use std::alloc::Global;
 use std::sync::Arc;
 
-/// A call, with copies of what it was given.
+/// A call, with copies of what it was given. Batches are boxed, so that other calls stay small.
 #[derive(Drop)]
 pub enum Call {
     /// A batch, and whether it is synced.
-    Write(LogBatch, bool),
+    Write(Box<LogBatch>, bool),
     /// .. with groups and their numbers.
-    WriteOnce(LogBatch, Vec<(u64, u64)>, bool),
+    WriteOnce(Box<LogBatch>, Vec<(u64, u64)>, bool),
     Sync,
     /// A purge by watermarks, with its barrier.
     Purge(u64),
@@ -109,6 +109,16 @@ impl Reply {
             Ok(None) => Ok(None),
             Err(fault) => Err(without_path(alloc, fault)),
         }))
+    }
+
+    /// .. which keeps its value. It takes no memory.
+    pub(crate) fn with_value(alloc: Global, value: Result<Option<SharedBytes>, Fault>) -> Reply
+        ensures value { answer_of result ≡ Value (answer_by (option_map shared_bytes) value) }
+    {
+        Reply::Value(match value {
+            Ok(value) => Ok(value),
+            Err(fault) => Err(without_path(alloc, &fault)),
+        })
     }
 }
 

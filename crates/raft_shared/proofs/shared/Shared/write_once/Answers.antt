@@ -13,7 +13,7 @@ invariant_of-self g c =
     let self = c.args.self.now in
     let write = c.write_once-size.ensures.value in
     let pairs = c.in_ok-numbers.ensures.items_if_clones_equal (λ x y e i. (e.0 i, e.1 i)) in
-    let asked = ap asked_of c.in_ok-calls.ensures.ok.0 ∙ once_asked c.args.sync (ap (λ b. b.items) c.in_ok-clone.ensures.ok) pairs in
+    let asked = ap asked_of c.in_ok-calls.ensures.ok.0 ∙ once_asked c.args.sync (ap (λ b. b.items) (c.in_ok-noted.ensures.ok ∙ c.in_ok-clone.ensures.ok)) pairs in
     let seat = c.make_room.new.seat.number in
     let is = event_is seat _ _ (record { seat = seat; call = c.in_ok-calls.calls.recorded; reply = c.of_size.result }) refl asked c.of_size.ensures.value in
     let base = contents_in self.begun.items in
@@ -30,7 +30,7 @@ returns-clause-ok g c =
     let write = c.write_once-size.ensures.value in
     let calls = c.in_ok-calls.ensures.ok in
     let pairs = c.in_ok-numbers.ensures.items_if_clones_equal (λ x y e i. (e.0 i, e.1 i)) in
-    let batch = once_asked c.args.sync (ap (λ b. b.items) c.in_ok-clone.ensures.ok) pairs in
+    let batch = once_asked c.args.sync (ap (λ b. b.items) (c.in_ok-noted.ensures.ok ∙ c.in_ok-clone.ensures.ok)) pairs in
     record {
       result = c.write_once-size.result;
       write = write;
