@@ -34,7 +34,7 @@ pub fn search_behind(
     ensures found { IfOk result (λ found. found ≡ Record → HoldsRecord id.seq version bytes.now) }
     ensures none { IfOk result (λ found. found ≡ Nothing
         → IsNoneIn id.seq version bytes.now (length bytes.now)) }
-    ensures ended { IfOk result (λ found. found ≡ Unsearched → IsLongSearch bytes.now) }
+    ensures full { IfOk result (λ found. found ≡ Unsearched → IsLongSearch bytes.now) }
     ensures memory { IfErr result (λ e. e ≡ Memory) }
 {
     let mut left = MOST_BYTES;

@@ -23,8 +23,8 @@ loop-at-preserved c =
     let step = headed_step bytes at (omega (arith, c.loop-at-test.true)) in
     (none, omega (arith, c.if-left-len.false), omega (arith, len, step, c.if-left-len.false, c.loop-at.invariant.2))
 
-pub returns-then-left-len-clause-ended : goal.returns-then-left-len-clause-ended
-returns-then-left-len-clause-ended c = λ is.
+pub returns-then-left-len-clause-full : goal.returns-then-left-len-clause-full
+returns-then-left-len-clause-full c = λ is.
     let bytes = c.args.bytes.now in
     let at = c.loop-at.at in
     let len : c.candidate_len-len.result ≡ headed_len (drop at bytes) = c.candidate_len-len.ensures.value ∙ ap headed_len (take_rest bytes at) in
