@@ -29,5 +29,5 @@ module _ (J : RattleType) (n : naming.Ghosts J.Denot) where
   pub shared_send : IsSend J → IsSync J → IsSend (Arc.the_row tickets_row Heap.the_row ghosts)
   shared_send j y = items.Arc-send tickets_row (tickets_send _ _ _ _ _ _ _ memory_send writer_send j) (tickets_sync _ _ _ _ _ _ _ memory_send writer_send j y)
 
-pub closure_send : (name : Sym) (A B C D : RattleType) → IsSend A → IsSend B → IsSend C → IsSend D → IsSend (TupleAt name (A ∷ B ∷ C ∷ D ∷ []))
-closure_send name A B C D a b c d = let T = type_at name (A ∷ B ∷ C ∷ D ∷ []) in recorded_send _ _ _ T.to_one (struct_send (shape T) (a, (b, (c, (d, tt)))))
+pub closure_send : {name : Sym} {A B C D : RattleType} → IsSend A → IsSend B → IsSend C → IsSend D → IsSend (TupleAt name (A ∷ B ∷ C ∷ D ∷ []))
+closure_send {name} {A} {B} {C} {D} a b c d = let T = type_at name (A ∷ B ∷ C ∷ D ∷ []) in recorded_send _ _ _ T.to_one (struct_send (shape T) (a, (b, (c, (d, tt)))))

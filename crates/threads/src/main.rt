@@ -1,6 +1,6 @@
-//! Four threads share an engine and its syncs, each with a seat of its own: puts that wait for the disk,
-//! and reads. Then each put stands in the one history before an answered sync, and after a crash that
-//! leaves what was synced each value that was read is found.
+//! Four threads share an engine and its syncs, each with a seat of its own: puts that wait for the
+//! disk, and reads. Then each put stands in the one history before an answered sync, and after a
+//! crash that leaves what was synced each value that was read is found.
 #![tactic(auto)]
 
 ghost use Rattle.std.specs.Prelude.{◌≡◌, Some};
@@ -122,8 +122,8 @@ fn join_each<J: Naming + Send + 'static, R: Threads>(
     Ok(all)
 }
 
-// Puts keys of a group of the seat's own, each of which waits for the disk, and reads each of them: it is
-// as it was put, since no other seat has this group.
+// Puts keys of a group of the seat's own, each of which waits for the disk, and reads each of them:
+// it is as it was put, since no other seat has this group.
 fn work<J: Naming, R: Wait>(
     rt: &R,
     alloc: Global,
