@@ -1,12 +1,18 @@
-//! Four threads share an engine, each with a seat of its own: puts, reads and a sync. Then the receipts
-//! of the seats are the history, and the engine holds each value that was read.
+//! Four threads share an engine and its syncs, each with a seat of its own: puts that wait for the
+//! disk, and reads. Then each put stands in the one history before an answered sync, and after a
+//! crash that leaves what was synced each value that was read is found.
 #![tactic(auto)]
 
+ghost use Rattle.std.specs.Prelude.{◌≡◌, Some};
+ghost use Rattle.raft_tickets.specs.Origin.{origin_of};
+
 use anyhow::{Result, bail};
-use raft_log_engine::{Config, Engine, Fault, Fresh, LogBatch, MemoryFileSystem};
+use raft_log_engine::{Config, Engine, Fault, FileSystem, Fresh, LogBatch, MemoryFileSystem};
 use raft_shared::{Call, Finished, Recorded, Reply, Seat, Shared};
+use raft_tickets::{Desk, Durable, Naming, Opened, Tickets};
 use std::alloc::Global;
-use std::sync::{Arc, Mutex, Wait};
+use std::marker::Brand;
+use std::sync::{Arc, Wait};
 use std::thread;
 use std::thread::{JoinHandle, Threads};
 
@@ -15,16 +21,25 @@ const THREADS: usize = 4;
 const PUTS: u8 = 10;
 
 /// How many calls the history may have.
-const LIMIT: usize = 100;
+const LIMIT: usize = 200;
 
-type Worker = JoinHandle<Result<Seat, Fault>>;
+/// How many writes a thread waits for before it syncs.
+const BOUND: u64 = 16;
 
-type Together = Arc<Mutex<Shared<MemoryFileSystem>>, Global>;
+type Together<J> = Arc<Tickets<MemoryFileSystem, J>, Global>;
+
+type Worker<J> = JoinHandle<Result<Worked<J>, Fault>>;
+
+// What a thread did: its seat, with the receipts of its calls, and a witness of each of its puts.
+#[derive(Drop)]
+struct Worked<J: Naming> {
+    seat: Seat,
+    puts: Vec<Durable<J>>,
+}
 
 fn main(rt: HostRuntime) -> Result<()> {
     let (shared, seats) = share(rt.alloc())?;
-    let finished = worked(&rt, rt.alloc(), shared, seats)?;
-    report(&rt, &finished)
+    play::<Brand, _>(&rt, rt.alloc(), Opened::new(), shared, seats)
 }
 
 // A shared engine over new files, and seats at it.
@@ -48,29 +63,44 @@ fn take_seats(alloc: Global, shared: &mut Shared<MemoryFileSystem>) -> Result<Ve
     Ok(seats)
 }
 
-// The engine and the history, once each seat has made its calls in a thread of its own.
-fn worked<R: Threads + Wait + Copy + Send + 'static>(
+// All of it, in a book that has this name.
+fn play<J: Naming + Send + Sync + 'static, R: Threads + Wait + Print + Copy + Send + 'static>(
     rt: &R,
     alloc: Global,
+    opened: Opened,
     shared: Shared<MemoryFileSystem>,
     seats: Vec<Seat>,
-) -> Result<Finished<MemoryFileSystem>> {
-    let together = Arc::new(alloc, Mutex::new(shared))?;
-    let workers = start(rt, alloc, &together, seats)?;
-    let seats = join_each(rt, alloc, workers)?;
+) -> Result<()>
+    requires book { opened.seen.book ≡ J.book }
+    requires origin { J.origin ≡ Some (origin_of shared) }
+{
+    let tickets: Tickets<MemoryFileSystem, J> = Tickets::new(opened, shared, BOUND);
+    let together = Arc::new(alloc, tickets)?;
+    let worked = work_in_threads(rt, alloc, &together, seats)?;
     match Arc::into_inner(together) {
-        Some(lock) => Ok(finish(lock.into_inner(), seats)?),
+        Some(tickets) => report(rt, alloc, tickets.into_desk(), worked),
         None => bail!("a thread still has the engine"),
     }
 }
 
-// Starts a thread for each seat.
-fn start<R: Threads + Wait + Copy + Send + 'static>(
+// What each seat did in a thread of its own.
+fn work_in_threads<J: Naming + Send + Sync + 'static, R: Threads + Wait + Copy + Send + 'static>(
     rt: &R,
     alloc: Global,
-    together: &Together,
+    together: &Together<J>,
     seats: Vec<Seat>,
-) -> Result<Vec<Worker>> {
+) -> Result<Vec<Worked<J>>> {
+    let workers = start(rt, alloc, together, seats)?;
+    Ok(join_each(rt, alloc, workers)?)
+}
+
+// Starts a thread for each seat.
+fn start<J: Naming + Send + Sync + 'static, R: Threads + Wait + Copy + Send + 'static>(
+    rt: &R,
+    alloc: Global,
+    together: &Together<J>,
+    seats: Vec<Seat>,
+) -> Result<Vec<Worker<J>>> {
     let handle = *rt;
     let mut workers = Vec::new(alloc);
     for seat in seats {
@@ -80,31 +110,34 @@ fn start<R: Threads + Wait + Copy + Send + 'static>(
     Ok(workers)
 }
 
-// The seats, each with the receipts of its calls.
-fn join_each<R: Threads>(rt: &R, alloc: Global, workers: Vec<Worker>) -> Result<Vec<Seat>, Fault> {
-    let mut seats = Vec::new(alloc);
+fn join_each<J: Naming + Send + 'static, R: Threads>(
+    rt: &R,
+    alloc: Global,
+    workers: Vec<Worker<J>>,
+) -> Result<Vec<Worked<J>>, Fault> {
+    let mut all = Vec::new(alloc);
     for worker in workers {
-        seats.push(worker.join(rt)?)?;
+        all.push(worker.join(rt)?)?;
     }
-    Ok(seats)
+    Ok(all)
 }
 
-// Puts keys of a group of the seat's own, and reads each of them: it is as it was put, since no other
-// seat has this group.
-fn work(
-    rt: &impl Wait,
+// Puts keys of a group of the seat's own, each of which waits for the disk, and reads each of them:
+// it is as it was put, since no other seat has this group.
+fn work<J: Naming, R: Wait>(
+    rt: &R,
     alloc: Global,
-    together: &Mutex<Shared<MemoryFileSystem>>,
+    tickets: &Tickets<MemoryFileSystem, J>,
     mut seat: Seat,
-) -> Result<Seat, Fault> {
+) -> Result<Worked<J>, Fault> {
     let group = seat.number() as u64;
+    let mut puts = Vec::new(alloc);
     for key in 0..PUTS {
         let mut batch = put_of(alloc, group, key)?;
-        together.lock(rt).write(&mut seat, &mut batch, false)?;
-        together.lock(rt).get(&mut seat, group, &[key])?;
+        puts.push(tickets.write_synced(rt, &mut seat, &mut batch)?)?;
+        tickets.get(rt, &mut seat, group, &[key])?;
     }
-    together.lock(rt).sync(&mut seat)?;
-    Ok(seat)
+    Ok(Worked { seat, puts })
 }
 
 fn put_of(alloc: Global, group: u64, key: u8) -> Result<LogBatch, Fault> {
@@ -113,23 +146,59 @@ fn put_of(alloc: Global, group: u64, key: u8) -> Result<LogBatch, Fault> {
     Ok(batch)
 }
 
-fn finish(
-    shared: Shared<MemoryFileSystem>,
-    seats: Vec<Seat>,
-) -> Result<Finished<MemoryFileSystem>, Fault> {
-    shared.finish(seats).map_err(|unfinished| unfinished.fault)
+// Whether each put stands in the engine's history before a sync that was answered.
+fn are_durable<F: FileSystem, J: Naming>(desk: &Desk<F, J>, worked: &[Worked<J>]) -> bool {
+    for one in worked {
+        for put in &one.puts {
+            if !desk.finds(put) {
+                return false;
+            }
+        }
+    }
+    true
 }
 
-fn report<R: Print>(rt: &R, finished: &Finished<MemoryFileSystem>) -> Result<()> {
-    let is_held = holds_each_read(&finished.engine, &finished.trail)?;
-    println!(rt;
-        "{} calls in one history, each value that was read is held: {is_held}",
-        finished.trail.len()
-    )?;
+fn seats_of<J: Naming>(alloc: Global, worked: Vec<Worked<J>>) -> Result<Vec<Seat>, Fault> {
+    let mut seats = Vec::new(alloc);
+    for one in worked {
+        let Worked { seat, puts: _ } = one;
+        seats.push(seat)?;
+    }
+    Ok(seats)
+}
+
+fn finish<F: FileSystem + Drop, J: Naming>(
+    desk: Desk<F, J>,
+    seats: Vec<Seat>,
+) -> Result<Finished<F>, Fault> {
+    desk.finish(seats).map_err(|unfinished| unfinished.fault)
+}
+
+// Prints what the history has of the puts, and what a crash leaves.
+fn report<J: Naming, R: Print>(
+    rt: &R,
+    alloc: Global,
+    desk: Desk<MemoryFileSystem, J>,
+    worked: Vec<Worked<J>>,
+) -> Result<()> {
+    let durable = are_durable(&desk, &worked);
+    let Finished { engine, trail } = finish(desk, seats_of(alloc, worked)?)?;
+    let found = holds_each_read(&after_crash(alloc, engine)?, &trail)?;
+    println!(rt; "each put stands before an answered sync: {durable}")?;
+    println!(rt; "each value that was read is found after a crash: {found}")?;
     Ok(())
 }
 
-// Each read found a value, and the engine still has it.
+// The engine that is opened where a crash has left what was synced.
+fn after_crash(
+    alloc: Global,
+    engine: Engine<MemoryFileSystem>,
+) -> Result<Engine<MemoryFileSystem>, Fault> {
+    let files = engine.give_up().crash(&[])?;
+    Ok(Engine::open_in_order(alloc, Config::fresh(alloc), files)?)
+}
+
+// Whether each read found a value, and the engine has it.
 fn holds_each_read(engine: &Engine<MemoryFileSystem>, trail: &[Recorded]) -> Result<bool, Fault> {
     for recorded in trail {
         let Call::Get(group, key) = &*recorded.call else {
