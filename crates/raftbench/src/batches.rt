@@ -6,8 +6,8 @@ use crate::workload::{GROUPS, Kind, Load, Purging};
 use anyhow::Result;
 use raft_c_batch::Entry;
 use raft_env::FileSystem;
-use raft_log_engine::Engine;
-use raft_records::{Fault, LogBatch};
+use raft_log_engine::{Engine, FileSpans};
+use raft_records::{Fault, LogBatch, LogQueue};
 use std::alloc::{AllocError, Global};
 use std::time::Instant;
 
@@ -153,20 +153,24 @@ pub(crate) fn write_beside_purges<R: Host, F: FileSystem>(
 }
 
 // A purge by watermarks, and before it, where that is asked for, the short calls that do most of
-// its work: what it took, or the longest of these.
+// its work: what the longest of these calls took.
 fn purge<R: Host, F: FileSystem>(rt: &R, engine: &mut Engine<F>, load: Load) -> Result<u64> {
-    if let Kind::Steady(_, Purging::ShortCalls) = load.kind {
-        let longest = rewrite_in_short_calls(rt, engine)?;
-        engine.purge_expired_files(u64::MAX)?;
-        return Ok(longest);
-    }
+    let short = match load.kind {
+        Kind::Steady(_, Purging::ShortCalls) => rewrite_in_short_calls(rt, engine)?,
+        _ => 0,
+    };
     let start = Instant::now(rt)?;
     engine.purge_expired_files(u64::MAX)?;
-    micros_since(rt, start)
+    Ok(micros_since(rt, start)?.max(short))
 }
 
+// Of the files that the purge itself would rewrite, where it would rewrite any: what the longest
+// call took.
 fn rewrite_in_short_calls<R: Host, F: FileSystem>(rt: &R, engine: &mut Engine<F>) -> Result<u64> {
-    let (_, last) = engine.file_spans().append;
+    if !engine.needs_rewrite_log_files(LogQueue::Append) {
+        return Ok(0);
+    }
+    let watermark = watermark_of(engine.file_spans());
     let mut next = Some(0);
     let mut longest = 0;
     for _ in 0..GROUPS {
@@ -174,8 +178,17 @@ fn rewrite_in_short_calls<R: Host, F: FileSystem>(rt: &R, engine: &mut Engine<F>
             break;
         };
         let start = Instant::now(rt)?;
-        next = engine.must_rewrite_append_groups(last, from, SHORT_CALL)?;
+        next = engine.must_rewrite_append_groups(watermark, from, SHORT_CALL)?;
         longest = micros_since(rt, start)?.max(longest);
     }
     Ok(longest)
+}
+
+// As the purge's own: of the Append queue's files the one at seven tenths, before the last one.
+fn watermark_of(spans: FileSpans) -> u64 {
+    let (first, last) = spans.append;
+    let files = last.saturating_sub(first).saturating_add(1);
+    first
+        .saturating_add(files.saturating_mul(7) / 10)
+        .min(last.saturating_sub(1))
 }

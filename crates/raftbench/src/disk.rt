@@ -40,7 +40,7 @@ pub(crate) fn run_in(rt: HostRuntime, folder: &str, amount: Amount) -> Result<()
 fn puts(name: &'static str, amount: Amount, sync_each: u64) -> Load {
     Load {
         name,
-        kind: Kind::Openings(0),
+        kind: Kind::Openings(None),
         count: amount.count,
         keys: amount.count,
         size: amount.size,

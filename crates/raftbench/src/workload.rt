@@ -52,8 +52,9 @@ pub(crate) enum Kind {
     Calls,
     /// Under so many keys at the most, over and over.
     Steady(u64, Purging),
-    /// Puts, or so many bytes of entries a batch, and then openings by workers.
-    Openings(u64),
+    /// Puts, or so many bytes of entries a batch, and one entry at the least; then openings by
+    /// workers.
+    Openings(Option<u64>),
 }
 
 /// Its name, what it does, after how many operations it syncs (0: never), and the size at which a
@@ -80,7 +81,10 @@ impl Load {
     }
 
     pub(crate) fn has_entries(self) -> bool {
-        self.batch_len > 1 || matches!(self.kind, Kind::Entries(_) | Kind::Purges)
+        matches!(
+            self.kind,
+            Kind::Entries(_) | Kind::Purges | Kind::Openings(Some(_))
+        )
     }
 }
 
@@ -144,9 +148,10 @@ static STEADY: [Workload; 6] = [
     ),
 ];
 
-static OTHERS: [Workload; 4] = [
-    Workload("open-files", Kind::Openings(0), 0, 4 << 20),
-    Workload("open-batches", Kind::Openings(1 << 20), 0, 4 << 20),
+static OTHERS: [Workload; 5] = [
+    Workload("open-files", Kind::Openings(None), 0, 4 << 20),
+    Workload("open-entries", Kind::Openings(Some(0)), 0, 4 << 20),
+    Workload("open-batches", Kind::Openings(Some(1 << 20)), 0, 4 << 20),
     Workload("fs-append", Kind::File, 0, ONE_FILE),
     Workload("fs-sync", Kind::File, 1, ONE_FILE),
 ];
@@ -196,15 +201,19 @@ impl Workload {
             },
             size,
             batch_len: match kind {
-                Kind::Entries(bytes) | Kind::Openings(bytes) => (*bytes / (size as u64).max(1))
-                    .min(count / GROUPS)
-                    .max(1),
+                Kind::Entries(bytes) | Kind::Openings(Some(bytes)) => batch_len(*bytes, amount),
                 _ => 1,
             },
             sync_each: *sync_each,
             file_size: *file_size,
         }
     }
+}
+
+// How many entries come to so many bytes: each group gets a batch, and that has one at the least.
+fn batch_len(bytes: u64, amount: Amount) -> u64 {
+    let len = bytes / (amount.size as u64).max(1);
+    len.min(amount.count / GROUPS).max(1)
 }
 
 // Below the parts of a workload stand the ceilings of as many records as it made, and of as many
