@@ -50,7 +50,8 @@
  * time is let in, with pointers that are valid and a log that is open; that their prototypes of the
  * proved functions are these functions'; and that each change of a file that a call ordered is carried
  * out, in turn, before that call or a read that saw it is answered, or else the failure is told to the
- * proved part and to each caller of the round. README.md, "What is trusted", has the whole list. */
+ * proved part and to each caller of the round. README.md, "What is proved and what is trusted", has the
+ * whole list. */
 #ifndef RAFTLOG_H
 #define RAFTLOG_H
 

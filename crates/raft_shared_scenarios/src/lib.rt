@@ -6,6 +6,8 @@ mod asked;
 #[cfg(test)]
 mod histories;
 #[cfg(test)]
+mod loads;
+#[cfg(test)]
 mod memory;
 #[cfg(test)]
 mod seated;
@@ -13,3 +15,5 @@ mod seated;
 mod stories;
 #[cfg(test)]
 mod threads;
+#[cfg(test)]
+mod tickets;
