@@ -73,7 +73,8 @@ enum {
     RAFTLOG_CORRUPTION = 2,
     /* A file call failed, and the log with it, but for reads: as for RAFTLOG_FAILED. */
     RAFTLOG_IO = 3,
-    /* Space was wanting. The log stands, and the write can be tried again. (In a folder want of space is RAFTLOG_IO.) */
+    /* Space was wanting. After a write the log stands, and the write can be tried again; after a purge the log has failed.
+     * (In a folder want of space is RAFTLOG_IO.) */
     RAFTLOG_TRY_AGAIN = 4,
     /* Entries that don't follow on one another, or on those that the group has. */
     RAFTLOG_GAP = 5,
@@ -89,7 +90,7 @@ enum {
     RAFTLOG_NOT_AN_ENTRY = 10,
     /* The log failed before: close it, and open its folder again. */
     RAFTLOG_FAILED = 11,
-    /* Memory is wanting. The log stands. */
+    /* Memory is wanting. The log stands; after a purge it may have failed. */
     RAFTLOG_NO_MEMORY = 12,
     /* The log holds a compressed record, which can't be read. */
     RAFTLOG_LZ4 = 13,

@@ -1,6 +1,6 @@
 //! What seats ask for, and what they are told.
 
-use raft_log_engine::{Fault, FileSeq, FileSystem, LogBatch};
+use raft_log_engine::{Fault, FileSystem, LogBatch};
 use raft_records::EntryIndex;
 use raft_shared::{Receipt, Reply, Seat, Shared};
 use std::alloc::Global;
@@ -9,14 +9,12 @@ pub(crate) enum Ask {
     Put(u64, &'static [u8], &'static [u8]),
     /// A value at the key k of group 1, with numbers of groups, synced.
     PutOnce(&'static [u8], &'static [(u64, u64)]),
-    /// Entries of group 1 with these indexes.
+    /// Entries of group 1 with these indexes, each without bytes.
     Entries(&'static [u64]),
     Get(u64, &'static [u8]),
     First(u64),
     Last(u64),
     Sync,
-    /// A purge by watermarks, for whose sake no file is kept.
-    Purge,
 }
 
 pub(crate) enum Told {
@@ -39,8 +37,7 @@ pub(crate) fn put_of(
     Ok(batch)
 }
 
-/// Entries of a group with these indexes, each without bytes.
-pub(crate) fn entries_of(alloc: Global, group: u64, indexes: &[u64]) -> Result<LogBatch, Fault> {
+fn entries_of(alloc: Global, indexes: &[u64]) -> Result<LogBatch, Fault> {
     let mut entries = Vec::new(alloc);
     let mut bytes = Vec::new(alloc);
     for index in indexes {
@@ -54,7 +51,7 @@ pub(crate) fn entries_of(alloc: Global, group: u64, indexes: &[u64]) -> Result<L
         bytes.push(Vec::new(alloc))?;
     }
     let mut batch = LogBatch::new(alloc);
-    batch.add_raw_entries(group, entries, bytes)?;
+    batch.add_raw_entries(1, entries, bytes)?;
     Ok(batch)
 }
 
@@ -90,12 +87,11 @@ pub(crate) fn ask_for<F: FileSystem>(
     match ask {
         Ask::Put(group, key, value) => write(shared, seat, put_of(alloc, *group, key, value)),
         Ask::PutOnce(value, pairs) => write_once(alloc, shared, seat, value, pairs),
-        Ask::Entries(indexes) => write(shared, seat, entries_of(alloc, 1, indexes)),
+        Ask::Entries(indexes) => write(shared, seat, entries_of(alloc, indexes)),
         Ask::Get(group, key) => shared.get(seat, *group, key),
         Ask::First(group) => shared.first_index(seat, *group),
         Ask::Last(group) => shared.last_index(seat, *group),
         Ask::Sync => shared.sync(seat),
-        Ask::Purge => Ok(shared.purge_expired_files(seat, FileSeq::MAX)?.receipt),
     }
 }
 

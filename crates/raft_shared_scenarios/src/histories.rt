@@ -26,44 +26,7 @@ const ONCE_LEN: Told = Told::Size(46);
 /// The key at which a group keeps its number.
 const NUMBER_KEY: &[u8] = &[0xff, b'o', b'n', b'c', b'e'];
 
-static STORIES: [Story; 13] = [
-    Story {
-        name: "a purge is a call of the history, and makes sure of what was written",
-        is_sync_refused: false,
-        limit: 3,
-        seats: 2,
-        steps: &[
-            Step::Answered(0, PUT_K, 0, PUT_LEN),
-            Step::Answered(1, Ask::Purge, 1, Told::Done),
-            Step::Answered(0, GET_K, 2, FOUND),
-            Step::Fails(1, Ask::Purge, 16),
-        ],
-        handed: Handed::First(2),
-        end: End {
-            refusal: None,
-            calls: 3,
-            keys: Some(1),
-            synced: Some(b"v"),
-        },
-    },
-    Story {
-        name: "a purge whose sync fails (3) is recorded, and the engine has failed (11)",
-        is_sync_refused: true,
-        limit: 20,
-        seats: 1,
-        steps: &[
-            Step::Answered(0, PUT_K, 0, PUT_LEN),
-            Step::Answered(0, Ask::Purge, 1, Told::Refused(3)),
-            Step::Answered(0, Ask::Purge, 2, Told::Refused(11)),
-        ],
-        handed: Handed::First(1),
-        end: End {
-            refusal: None,
-            calls: 3,
-            keys: None,
-            synced: None,
-        },
-    },
+static STORIES: [Story; 11] = [
     Story {
         name: "puts that act once",
         is_sync_refused: false,

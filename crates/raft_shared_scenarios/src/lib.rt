@@ -6,8 +6,6 @@ mod asked;
 #[cfg(test)]
 mod histories;
 #[cfg(test)]
-mod loads;
-#[cfg(test)]
 mod memory;
 #[cfg(test)]
 mod seated;
@@ -15,5 +13,3 @@ mod seated;
 mod stories;
 #[cfg(test)]
 mod threads;
-#[cfg(test)]
-mod tickets;

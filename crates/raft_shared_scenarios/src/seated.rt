@@ -9,8 +9,8 @@ use std::alloc::Global;
 pub(crate) trait Faulty: FileSystem + Drop {
     fn fresh(alloc: Global) -> Self;
 
-    /// The nth sync from now on fails, counted from 1.
-    fn refuse_sync(engine: &mut Engine<Self>, nth: u64) -> Result<(), Fault>;
+    /// The next sync fails.
+    fn refuse_sync(engine: &mut Engine<Self>) -> Result<(), Fault>;
 
     /// What a crash leaves of each file: what was synced.
     fn crash_to_synced(&mut self) -> Result<(), Fault>;
@@ -21,8 +21,8 @@ impl Faulty for MemoryFileSystem {
         MemoryFileSystem::new(alloc)
     }
 
-    fn refuse_sync(engine: &mut Engine<MemoryFileSystem>, nth: u64) -> Result<(), Fault> {
-        engine.refuse(FsCall::Sync, nth, IoKind::Other)
+    fn refuse_sync(engine: &mut Engine<MemoryFileSystem>) -> Result<(), Fault> {
+        engine.refuse(FsCall::Sync, 1, IoKind::Other)
     }
 
     fn crash_to_synced(&mut self) -> Result<(), Fault> {

@@ -85,7 +85,7 @@ fn wrong_step<F: FileSystem>(
 fn begin<F: Faulty>(alloc: Global, story: &Story) -> Result<Seated<F>, Fault> {
     let mut engine: Engine<F> = open(alloc, F::fresh(alloc))?;
     if story.is_sync_refused {
-        F::refuse_sync(&mut engine, 1)?;
+        F::refuse_sync(&mut engine)?;
     }
     seat(alloc, engine, story.limit, story.seats)
 }
