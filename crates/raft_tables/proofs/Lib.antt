@@ -19,6 +19,9 @@ pub mod JoiningLemmas
 pub mod RewrittenLemmas
 pub mod OwedLemmas
 pub mod FirstFileLemmas
+pub mod FileCountLemmas
+pub mod FirstCountLemmas
+pub mod NoneToMoveLemmas
 pub mod TakingLemmas
 pub mod WrittenLemmas
 pub mod GroupIdsLemmas

@@ -25,3 +25,4 @@ pub mod ToMove
 pub mod Deleting
 pub mod Replayed
 pub mod Pairs
+pub mod FileCounts

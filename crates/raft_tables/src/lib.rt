@@ -1,8 +1,10 @@
 //! The in-memory index: what each group holds, and the files that it stands in.
 #![tactic(auto)]
 
+mod bounds;
 mod dropping;
 pub mod entries;
+mod file_counts;
 pub mod group_ids;
 mod growing;
 mod joining;
