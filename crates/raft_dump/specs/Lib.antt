@@ -3,4 +3,5 @@ pub mod Check
 pub mod Dump
 pub mod Items
 pub mod LogFiles
+pub mod Reads
 pub mod Stale

@@ -1,7 +1,7 @@
 -- Folders that a fork leaves.
-use Rattle.std.proofs.Common.{◌≡◌, ◌∙◌, Bool, Option, Some, None, refl, ap, sym}
-use Rattle.raft_env.specs.Directory.{Directory, Path, file_at, update_at, update_file}
-use Rattle.raft_env.specs.Outcomes.{File}
+use Rattle.std.proofs.Common.{◌≡◌, ◌∙◌, Bool, true, false, cond, [], is_some, Option, Some, None, refl, ap, sym}
+use Rattle.raft_env.specs.Directory.{Directory, Path, after_create, file_at, update_at, update_file, with_file}
+use Rattle.raft_env.specs.Outcomes.{File, synced_file}
 use Rattle.raft_pipes.specs.Folder.{HasMadeFolder}
 
 pub folder_then : (target : Path) (old mid new : Directory) → HasMadeFolder target old mid → new.is_folder ≡ mid.is_folder → HasMadeFolder target old new
@@ -20,3 +20,11 @@ updated_folders path f old new is = ap (λ (n : Directory). n.is_folder) is ∙ 
     by_file : (found : Option File) → (update_at path f found old).is_folder ≡ old.is_folder
     by_file None = refl
     by_file (Some file) = refl
+
+-- nor does a file that is made
+pub created_folders : (path : Path) (old new : Directory) → new ≡ after_create path old → new.is_folder ≡ old.is_folder
+created_folders path old new is = ap (λ (n : Directory). n.is_folder) is ∙ by_test (is_some (file_at old path))
+  where
+    by_test : (there : Bool) → (cond there old (with_file path (synced_file []) old)).is_folder ≡ old.is_folder
+    by_test true = refl
+    by_test false = refl

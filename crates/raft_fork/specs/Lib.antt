@@ -1,2 +1,3 @@
 pub mod Fork
 pub mod Refused
+pub mod Calls

@@ -27,7 +27,7 @@ pub record HoldsRecord (seq : ℕ) (version : Option Version) (bytes : List ℕ)
   pub within : at < length bytes
   pub stands : ¬ IsNoRecord seq version (drop at bytes)
 
--- a search ends where so many bytes of what may be records stand in the bytes, or more
+-- a search may be given up where so many bytes of what may be records stand in the bytes, or more
 abbrev pub most_searched : ℕ
 most_searched = 268435456
 

@@ -1,9 +1,10 @@
 -- What can be read of the log files of a queue, and why a reading fails.
-use Rattle.std.specs.Prelude.{List, [], ◌∷◌, ⊤}
+use Rattle.std.specs.Prelude.{IfErr, IfOk, List, [], ◌∷◌, Result, ⊤}
 use Rattle.std.specs.String.{string_bytes}
 use Rattle.raft_base.specs.declared.errors.Fault.{Fault}
 use Rattle.raft_base.specs.declared.errors.Fault.TheVariants as fault
 use Rattle.raft_env.specs.Directory.{Directory}
+use Rattle.raft_env.specs.Moments.{OnlyReads}
 use Rattle.raft_env.specs.Refusal.{Refusals, RoseBy}
 use Rattle.raft_files.specs.Writer.{bytes_at}
 use Rattle.raft_dump.specs.Check.{IsCheckOf}
@@ -23,3 +24,14 @@ abbrev pub IsReadFault : Refusals → Refusals → Fault → Type 0
 IsReadFault before after (fault.Io kind path) = RoseBy 1 before after
 IsReadFault before after fault.Memory = ⊤
 IsReadFault before after _ = ⊥
+
+-- on files of which these are the directory, its moments and the refusals of calls
+module _ {F : Type 0} (directory : F → Directory) (moments : F → List Directory)
+    (refusals_of : F → Refusals) where
+  -- a call only reads, and answers this of what stands there; or storage counted a failed call, or
+  -- memory is wanting
+  pub record Finds {T : Type 0} (result : Result T Fault) (IsFound : T → Type 0) (old new : F)
+      : Type 0 where
+    pub value : IfOk result IsFound
+    pub unchanged : OnlyReads directory moments refusals_of old new
+    pub cause : IfErr result (IsReadFault (refusals_of old) (refusals_of new))

@@ -18,8 +18,9 @@ use Rattle.raft_inspect.specs.declared.cuts.Cut.{Cut as TheCut}
 use Rattle.raft_inspect.specs.declared.cuts.Unexplained.{Unexplained}
 use Rattle.raft_inspect.specs.declared.cuts.Unexplained.TheVariants.{Earlier, Records, Unsearched}
 
--- bytes of a file: its number and path, where they begin, how many there are, whether an earlier file left
--- them, whether the file is its queue's last one, and the version of its records, where its header tells one
+-- bytes of a file: its number and path, where they begin, how many there are, whether they are
+-- called stale (then a record of an earlier file stands in them), whether the file is its queue's
+-- last one, and the version of its records, where its header tells one
 pub record CutPlace : Type 0 where
   pub id : FileId
   pub path : Path
@@ -61,7 +62,8 @@ cut_as (Cut _) is_last f c = if c.zeros then None else Some (place_in is_last f 
 cut_as Keep is_last f c = None
 cut_as Fail is_last f c = None
 
--- .. of each of these files of a queue, with what can be read of them: none behind it is the last one
+-- .. of each of these files of a queue, with what can be read of them: one is the last where none
+-- stands behind it
 abbrev pub cuts_in : RecoveryMode → List LogFile → List FileCheck → List CutPlace
 cuts_in mode files [] = []
 cuts_in mode [] (c ∷ checks) = []
@@ -70,7 +72,8 @@ cuts_in mode (f ∷ files) (c ∷ checks) =
     cons_option (cut_as (planned_stop (tolerates_corruption mode is_last) c.end c.stop) is_last f c)
     (cuts_in mode files checks)
 
--- why an unsynced tail doesn't explain these bytes: nothing hinders it where no whole record stands there
+-- why an unsynced tail doesn't explain these bytes: nothing hinders it where no whole record stands
+-- there
 abbrev pub IsToldWhy : TheCut → List ℕ → Option Unexplained → Type 0
 IsToldWhy c bytes (Some Earlier) = c.is_last ≡ false
 IsToldWhy c bytes (Some Records) = (c.is_last ≡ true) × HoldsRecord c.id.seq c.version bytes

@@ -10,7 +10,8 @@ ghost use Rattle.raft_inspect.specs.declared.behind.Behind.TheVariants.{Nothing,
 use raft_records::{Fault, FileId, LogFileContext, Version, decode_header, decode_record};
 use std::alloc::Global;
 
-/// How many bytes of what may be records are read at most in a search.
+/// A search is given up once so many bytes of what may be records were read; the last of these may
+/// pass the bound.
 const MOST_BYTES: usize = 256 * 1024 * 1024;
 
 /// What a search behind a break found.

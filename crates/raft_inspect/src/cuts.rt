@@ -26,7 +26,7 @@ pub struct Cut {
     /// Where what is cut off begins, and how many bytes it has.
     pub offset: usize,
     pub len: usize,
-    /// Whether an earlier file left them where this one stands.
+    /// Whether they are called stale: then a record of an earlier file stands in them.
     pub stale: bool,
     /// Whether the file is the last one of its queue.
     pub is_last: bool,

@@ -6,7 +6,7 @@ ghost use Rattle.raft_base.specs.declared.errors.Fault.TheVariants.{Memory};
 ghost use Rattle.raft_env.specs.Moments.{OnlyReads};
 ghost use Rattle.raft_dump.specs.Check.{plan_of};
 ghost use Rattle.raft_dump.specs.declared.plan.Planned.TheVariants.{Fail};
-ghost use Rattle.raft_inspect.specs.Checks.{IsReadFault};
+ghost use Rattle.raft_inspect.specs.Checks.{Finds, IsReadFault};
 ghost use Rattle.raft_inspect.specs.Cuts.{cuts_in, place_of};
 ghost use Rattle.raft_inspect.specs.Kept.{IsPassedTold, holds_nothing};
 ghost use Rattle.raft_inspect.specs.Losses.{AreLossesIn, AreLossesOf};
@@ -69,12 +69,9 @@ impl Losses {
         folders: &[String],
         file_system: &mut F,
     ) -> Result<Losses, Fault>
-        ensures value { IfOk result (AreLossesIn mode (map string_bytes folders.now)
-            (F.directory file_system.old)) }
-        ensures unchanged { OnlyReads F.directory F.moments F.refusals_of
+        ensures { Finds F.directory F.moments F.refusals_of result
+            (AreLossesIn mode (map string_bytes folders.now) (F.directory file_system.old))
             file_system.old file_system.new }
-        ensures cause { IfErr result (IsReadFault (F.refusals_of file_system.old)
-            (F.refusals_of file_system.new)) }
     {
         let rewrite = find_kept(alloc, folders, LogQueue::Rewrite, file_system)?;
         let append = find_kept(alloc, folders, LogQueue::Append, file_system)?;

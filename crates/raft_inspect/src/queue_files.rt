@@ -1,14 +1,13 @@
 //! The log files of a queue, and what can be read of them.
-ghost use Rattle.std.specs.Prelude.{◌≡◌, ◌↔◌, ◌++◌, [], IfErr, IfOk, OnOk, drop, map, slice_get, true, if◌then◌else◌};
-ghost use Rattle.std.specs.List.{filter_map};
+ghost use Rattle.std.specs.Prelude.{◌≡◌, ◌↔◌, ◌++◌, IfErr, IfOk, OnOk, drop, map, slice_get, true};
 ghost use Rattle.std.specs.List.Sorted.{IsNonDecreasingBy, IsPermutation};
 ghost use Rattle.raft_base.specs.declared.errors.Fault.TheVariants.{Memory};
-ghost use Rattle.raft_env.specs.Directory.{names_in};
 ghost use Rattle.raft_env.specs.Moments.{OnlyReads};
 ghost use Rattle.raft_dump.specs.Check.{AreLastToRise, numbers_of, plan_of};
-ghost use Rattle.raft_dump.specs.LogFiles.{file_named, place_of};
-ghost use Rattle.raft_inspect.specs.Checks.{AreChecksOf, IsReadFault};
+ghost use Rattle.raft_dump.specs.LogFiles.{place_of};
+ghost use Rattle.raft_inspect.specs.Checks.{AreChecksOf, Finds, IsReadFault};
 ghost use Rattle.raft_inspect.specs.Failing.{IsFailing, is_doubled, number_before};
+ghost use Rattle.raft_inspect.specs.Listed.{AreAllThere, all_there, those_there};
 
 use crate::kept::add_folder;
 use raft_config::RecoveryMode;
@@ -38,18 +37,37 @@ pub fn inspect<F: FileSystem>(
         × AreLastToRise (numbers_of found.checks.items) found.passed) }
     ensures value { IfOk result (λ found. AreChecksOf (F.directory file_system.old)
         found.files.items found.checks.items) }
+    ensures files { IfOk result (λ found. AreAllThere queue (F.directory file_system.old)
+        folders.now found.files.items) }
     ensures unchanged { OnlyReads F.directory F.moments F.refusals_of file_system.old
         file_system.new }
     ensures cause { IfErr result (IsReadFault (F.refusals_of file_system.old)
         (F.refusals_of file_system.new)) }
 {
-    let mut files = Vec::new(alloc);
-    for folder in folders {
-        add_there(alloc, folder, queue, &mut files, file_system)?;
-    }
+    let mut files = files_there(alloc, folders, queue, file_system)?;
     QueueFiles::sort(&mut files)?;
     let checks = checks_of(alloc, file_system, &files)?;
     Ok(QueueFiles::new(queue, files, checks))
+}
+
+// Those of these folders, where they are there.
+fn files_there<F: FileSystem>(
+    alloc: Global,
+    folders: &[&str],
+    queue: LogQueue,
+    file_system: &mut F,
+) -> Result<Vec<LogFile>, Fault>
+    ensures { Finds F.directory F.moments F.refusals_of result (λ files. map place_of files.items
+        ≡ all_there queue (F.directory file_system.old) folders.now)
+        file_system.old file_system.new }
+{
+    let mut files = Vec::new(alloc);
+    let mut place = 0;
+    'folders: while let Some(folder) = folders.get(place) {
+        add_there(alloc, folder, queue, &mut files, file_system)?;
+        place += 1;
+    }
+    Ok(files)
 }
 
 pub(crate) fn checks_of<F: FileSystem>(
@@ -57,12 +75,9 @@ pub(crate) fn checks_of<F: FileSystem>(
     file_system: &mut F,
     files: &[LogFile],
 ) -> Result<Vec<FileCheck>, Fault>
-    ensures value { IfOk result (λ checks.
-        AreChecksOf (F.directory file_system.old) files.now checks.items) }
-    ensures unchanged { OnlyReads F.directory F.moments F.refusals_of file_system.old
-        file_system.new }
-    ensures cause { IfErr result (IsReadFault (F.refusals_of file_system.old)
-        (F.refusals_of file_system.new)) }
+    ensures { Finds F.directory F.moments F.refusals_of result
+        (λ checks. AreChecksOf (F.directory file_system.old) files.now checks.items)
+        file_system.old file_system.new }
 {
     let mut checks = Vec::new(alloc);
     let mut left = files;
@@ -81,14 +96,10 @@ fn add_there<F: FileSystem>(
     files: &mut Vec<LogFile>,
     file_system: &mut F,
 ) -> Result<(), Fault>
-    ensures value { IfOk result (λ _. map place_of files.new.items ≡ map place_of files.old.items
-        ++ (if (F.directory file_system.old).is_folder folder.now
-        then filter_map (file_named folder.now queue)
-        (names_in folder.now (F.directory file_system.old)) else [])) }
-    ensures unchanged { OnlyReads F.directory F.moments F.refusals_of file_system.old
-        file_system.new }
-    ensures cause { IfErr result (IsReadFault (F.refusals_of file_system.old)
-        (F.refusals_of file_system.new)) }
+    ensures { Finds F.directory F.moments F.refusals_of result
+        (λ _. map place_of files.new.items ≡ map place_of files.old.items
+        ++ those_there queue (F.directory file_system.old) folder.now)
+        file_system.old file_system.new }
 {
     if file_system.is_dir(folder) {
         add_folder(alloc, folder, queue, files, file_system)

@@ -47,7 +47,10 @@ pub fn measure<F: FileSystem>(
     file_system: &mut F,
     rewrite: &QueueFiles,
     append: &QueueFiles,
-) -> Result<LogUsage, Fault> {
+) -> Result<LogUsage, Fault>
+    ensures unchanged { OnlyReads F.directory F.moments F.refusals_of file_system.old
+        file_system.new }
+{
     let tables = tables_of(alloc, file_system, rewrite, append)?;
     let mut usage = LogUsage {
         rewrite: QueueUsage::new(alloc, rewrite)?,
@@ -68,26 +71,57 @@ fn tables_of<F: FileSystem>(
     file_system: &mut F,
     rewrite: &QueueFiles,
     append: &QueueFiles,
-) -> Result<MemTables, Fault> {
+) -> Result<MemTables, Fault>
+    ensures unchanged { OnlyReads F.directory F.moments F.refusals_of file_system.old
+        file_system.new }
+{
     let mut stats = GlobalStats::new();
+    let batches = rewritten_of(alloc, file_system, rewrite)?;
+    let mut context = MemTableRecoverContext::new(batches.into_tables(&mut stats)?);
+    replay_all(alloc, file_system, append, &mut context, &mut stats)?;
+    let (tables, _) = context.join(&mut stats)?;
+    Ok(tables)
+}
+
+// The batches of the Rewrite queue.
+fn rewritten_of<F: FileSystem>(
+    alloc: Global,
+    file_system: &mut F,
+    found: &QueueFiles,
+) -> Result<RewrittenBatches, Fault>
+    ensures unchanged { OnlyReads F.directory F.moments F.refusals_of file_system.old
+        file_system.new }
+{
     let mut batches = RewrittenBatches::new(alloc);
-    let mut reader = BatchReader::new(alloc, rewrite.kept_files())?;
-    for _ in 0..u64::MAX {
+    let mut reader = BatchReader::new(alloc, found.kept_files())?;
+    'rewritten: for _ in 0..u64::MAX {
         match reader.next(file_system)? {
             Some((items, id)) => batches.push(items, id)?,
             None => break,
         }
     }
-    let mut context = MemTableRecoverContext::new(batches.into_tables(&mut stats)?);
-    let mut reader = BatchReader::new(alloc, append.kept_files())?;
-    for _ in 0..u64::MAX {
+    Ok(batches)
+}
+
+// Adds those of the Append queue.
+fn replay_all<F: FileSystem>(
+    alloc: Global,
+    file_system: &mut F,
+    found: &QueueFiles,
+    context: &mut MemTableRecoverContext,
+    stats: &mut GlobalStats,
+) -> Result<(), Fault>
+    ensures unchanged { OnlyReads F.directory F.moments F.refusals_of file_system.old
+        file_system.new }
+{
+    let mut reader = BatchReader::new(alloc, found.kept_files())?;
+    'appended: for _ in 0..u64::MAX {
         match reader.next(file_system)? {
-            Some((mut items, id)) => context.replay_append(&mut items, id, &mut stats)?,
+            Some((mut items, id)) => context.replay_append(&mut items, id, stats)?,
             None => break,
         }
     }
-    let (tables, _) = context.join(&mut stats)?;
-    Ok(tables)
+    Ok(())
 }
 
 /// An item and the record that it stands in.
@@ -121,7 +155,10 @@ impl<F: FileSystem> BatchReader<F> {
     }
 
     // The items of the next record, and its file.
-    fn next(&mut self, file_system: &mut F) -> Result<Option<(Vec<LogItem>, FileId)>, Fault> {
+    fn next(&mut self, file_system: &mut F) -> Result<Option<(Vec<LogItem>, FileId)>, Fault>
+        ensures unchanged { OnlyReads F.directory F.moments F.refusals_of
+            file_system.old file_system.new }
+    {
         let first = match self.ahead.take() {
             Some(first) => Some(first),
             None => self.next_item(file_system)?,
@@ -137,11 +174,14 @@ impl<F: FileSystem> BatchReader<F> {
         &mut self,
         first: Placed,
         file_system: &mut F,
-    ) -> Result<(Vec<LogItem>, FileId), Fault> {
+    ) -> Result<(Vec<LogItem>, FileId), Fault>
+        ensures unchanged { OnlyReads F.directory F.moments F.refusals_of
+            file_system.old file_system.new }
+    {
         let Placed { item, place } = first;
         let mut items = Vec::new(self.alloc);
         items.push(item)?;
-        for _ in 0..u64::MAX {
+        'items: for _ in 0..u64::MAX {
             let Some(next) = self.next_item(file_system)? else {
                 break;
             };
@@ -155,8 +195,11 @@ impl<F: FileSystem> BatchReader<F> {
     }
 
     // The next item of a file that can be read.
-    fn next_item(&mut self, file_system: &mut F) -> Result<Option<Placed>, Fault> {
-        for _ in 0..u64::MAX {
+    fn next_item(&mut self, file_system: &mut F) -> Result<Option<Placed>, Fault>
+        ensures unchanged { OnlyReads F.directory F.moments F.refusals_of
+            file_system.old file_system.new }
+    {
+        'items: for _ in 0..u64::MAX {
             let Some(next) = self.items.next(file_system) else {
                 break;
             };

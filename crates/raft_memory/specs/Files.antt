@@ -1,12 +1,13 @@
 -- The directory that a namespace of files in memory shows.
-use Rattle.std.specs.Prelude.{Bool, ◌==◌, ◌||◌, List, [], ◌∷◌, length, String}
+use Rattle.std.specs.Prelude.{◌≡◌, Bool, ◌==◌, ◌||◌, List, [], ◌∷◌, length, IfErr, OnErr, OnOk, Result, String}
 use Rattle.std.specs.List.{list_any}
 use Rattle.std.specs.declared.alloc.Global.{Global}
 use Rattle.std.specs.String.{string_bytes}
 use Rattle.std.specs.BTreeMap.{BTreeMap}
 use Rattle.std.specs.FinMap as finite
 use Rattle.raft_env.specs.Outcomes.{File}
-use Rattle.raft_env.specs.Directory.{Directory, Path, is_on_way}
+use Rattle.raft_env.specs.Directory.{Directory, HasFile, Path, is_on_way}
+use Rattle.raft_env.specs.declared.env.FsFault.{FsFault}
 use Rattle.raft_memory.specs.declared.namespace.Namespace.{Namespace}
 
 abbrev pub Files : Type 0
@@ -28,3 +29,13 @@ directory_of files is_folder = record {
 
 abbrev pub namespace_directory : Namespace → Directory
 namespace_directory n = directory_of n.files (folders_of n.folders.items)
+
+-- a call on the file at the path changes the directory so, or nothing for such a cause
+pub record ChangesFile {T : Type 0} (path : Path) (change : Directory → Directory)
+    (IsCause : Directory → Path → FsFault → Type 0) (result : Result T FsFault)
+    (old new : Namespace) : Type 0 where
+  -- the file stands
+  pub value : OnOk result (HasFile (namespace_directory old) path)
+  pub ok : OnOk result (namespace_directory new ≡ change (namespace_directory old))
+  pub err : OnErr result (namespace_directory new ≡ namespace_directory old)
+  pub cause : IfErr result (IsCause (namespace_directory old) path)

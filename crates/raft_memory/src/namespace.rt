@@ -1,8 +1,8 @@
 //! The files and folders of a file system in memory.
-ghost use Rattle.std.specs.Prelude.{◌≡◌, ◌≢◌, ◌⊎◌, ◌≤◌, ◌<◌, ◌+◌, ◌^◌, length, take, map, true, OnOk, OnErr, IfOk, IfErr};
+ghost use Rattle.std.specs.Prelude.{◌≡◌, ◌≢◌, ◌⊎◌, ◌≤◌, ◌<◌, ◌+◌, ◌^◌, length, take, map, OnOk, OnErr, IfOk, IfErr};
 ghost use Rattle.std.specs.String.{string_bytes};
 ghost use Rattle.raft_env.specs.Outcomes.{file_after_write, file_after_resize, synced_of, renamed_of, overlay, pad_to};
-ghost use Rattle.raft_env.specs.Directory.{update_file, after_create, after_rename, without_file, folder_made, names_in, HasFile};
+ghost use Rattle.raft_env.specs.Directory.{update_file, after_create, after_rename, without_file, folder_made, names_in};
 ghost use Rattle.raft_memory.specs.Refused.{HasNoFolder, HasNoPlace, IsAbsent, IsBarred, IsMissing};
 
 use crate::memory_file::MemoryFile;
@@ -80,7 +80,7 @@ impl Namespace {
 }
 
 impl Namespace {
-    ghost use Rattle.raft_memory.specs.Files.{namespace_directory};
+    ghost use Rattle.raft_memory.specs.Files.{namespace_directory, ChangesFile};
 
     #[inline(always)]
     pub(crate) fn write(
@@ -93,12 +93,9 @@ impl Namespace {
     ) -> Result<(), FsFault>
         requires fits { at + length given.now < 2 ^ 63 }
         requires part { length kept.now ≤ length given.now }
-        ensures value { OnOk result (HasFile (namespace_directory self.old) path.now) }
-        ensures ok { OnOk result (namespace_directory self.new ≡ update_file path.now
-            (λ f. file_after_write at given.now is_done (overlay f.now at kept.now) f)
-            (namespace_directory self.old)) }
-        ensures err { OnErr result (namespace_directory self.new ≡ namespace_directory self.old) }
-        ensures cause { IfErr result (IsMissing (namespace_directory self.old) path.now) }
+        ensures { ChangesFile path.now (update_file path.now
+            (λ f. file_after_write at given.now is_done (overlay f.now at kept.now) f))
+            IsMissing result self.old self.new }
     {
         match self.files.get_mut(path) {
             Some(file) => {
@@ -110,11 +107,8 @@ impl Namespace {
     }
 
     pub(crate) fn cut(&mut self, path: &str, size: usize) -> Result<(), FsFault>
-        ensures value { OnOk result (HasFile (namespace_directory self.old) path.now) }
-        ensures ok { OnOk result (namespace_directory self.new ≡ update_file path.now
-            (λ f. file_after_resize (take size f.now) f) (namespace_directory self.old)) }
-        ensures err { OnErr result (namespace_directory self.new ≡ namespace_directory self.old) }
-        ensures cause { IfErr result (IsMissing (namespace_directory self.old) path.now) }
+        ensures { ChangesFile path.now (update_file path.now
+            (λ f. file_after_resize (take size f.now) f)) IsMissing result self.old self.new }
     {
         match self.files.get_mut(path) {
             Some(file) => {
@@ -127,11 +121,8 @@ impl Namespace {
 
     pub(crate) fn lengthen(&mut self, path: &str, size: usize) -> Result<(), FsFault>
         requires { size < 2 ^ 63 }
-        ensures value { OnOk result (HasFile (namespace_directory self.old) path.now) }
-        ensures ok { OnOk result (namespace_directory self.new ≡ update_file path.now
-            (λ f. file_after_resize (pad_to f.now size) f) (namespace_directory self.old)) }
-        ensures err { OnErr result (namespace_directory self.new ≡ namespace_directory self.old) }
-        ensures cause { IfErr result (IsMissing (namespace_directory self.old) path.now) }
+        ensures { ChangesFile path.now (update_file path.now
+            (λ f. file_after_resize (pad_to f.now size) f)) IsMissing result self.old self.new }
     {
         match self.files.get_mut(path) {
             Some(file) => {
@@ -143,11 +134,8 @@ impl Namespace {
     }
 
     pub(crate) fn sync(&mut self, path: &str) -> Result<(), FsFault>
-        ensures value { OnOk result (HasFile (namespace_directory self.old) path.now) }
-        ensures ok { OnOk result (namespace_directory self.new
-            ≡ update_file path.now synced_of (namespace_directory self.old)) }
-        ensures err { OnErr result (namespace_directory self.new ≡ namespace_directory self.old) }
-        ensures cause { IfErr result (IsAbsent (namespace_directory self.old) path.now) }
+        ensures { ChangesFile path.now (update_file path.now synced_of) IsAbsent result self.old
+            self.new }
     {
         match self.files.get_mut(path) {
             Some(file) => {
@@ -177,14 +165,10 @@ impl Namespace {
 }
 
 impl Namespace {
-    ghost use Rattle.raft_memory.specs.Files.{namespace_directory};
+    ghost use Rattle.raft_memory.specs.Files.{ChangesFile};
 
     pub(crate) fn delete(&mut self, path: &str) -> Result<(), FsFault>
-        ensures value { OnOk result (HasFile (namespace_directory self.old) path.now) }
-        ensures ok { OnOk result (namespace_directory self.new
-            ≡ without_file path.now (namespace_directory self.old)) }
-        ensures err { OnErr result (namespace_directory self.new ≡ namespace_directory self.old) }
-        ensures cause { IfErr result (IsAbsent (namespace_directory self.old) path.now) }
+        ensures { ChangesFile path.now (without_file path.now) IsAbsent result self.old self.new }
     {
         if !self.files.contains_key(path) {
             return Err(FsFault::Io(IoKind::NotFound));
@@ -195,12 +179,8 @@ impl Namespace {
 
     /// Moves the file, without a copy of its bytes. What stands at the other path is gone.
     pub(crate) fn rename(&mut self, alloc: Global, from: &str, to: &str) -> Result<(), FsFault>
-        ensures value { OnOk result (HasFile (namespace_directory self.old) from.now) }
-        ensures ok { OnOk result (namespace_directory self.new
-            ≡ after_rename from.now to.now (namespace_directory self.old)) }
-        ensures err { OnErr result (namespace_directory self.new ≡ namespace_directory self.old) }
-        ensures cause { IfErr result (λ e. IsMissing (namespace_directory self.old) from.now e
-            ⊎ HasNoPlace (namespace_directory self.old) to.now e) }
+        ensures { ChangesFile from.now (after_rename from.now to.now)
+            (λ n path e. IsMissing n path e ⊎ HasNoPlace n to.now e) result self.old self.new }
     {
         if from == to {
             return self.rename_in_place(from);
@@ -215,11 +195,8 @@ impl Namespace {
     }
 
     fn rename_in_place(&mut self, path: &str) -> Result<(), FsFault>
-        ensures value { OnOk result (HasFile (namespace_directory self.old) path.now) }
-        ensures ok { OnOk result (namespace_directory self.new
-            ≡ update_file path.now renamed_of (namespace_directory self.old)) }
-        ensures err { OnErr result (namespace_directory self.new ≡ namespace_directory self.old) }
-        ensures cause { IfErr result (IsAbsent (namespace_directory self.old) path.now) }
+        ensures { ChangesFile path.now (update_file path.now renamed_of) IsAbsent result self.old
+            self.new }
     {
         match self.files.get_mut(path) {
             Some(file) => {
@@ -233,11 +210,8 @@ impl Namespace {
     // An empty file makes room at the other path first, so nothing fails once the file is taken.
     fn rename_apart(&mut self, alloc: Global, from: &str, to: &str) -> Result<(), FsFault>
         requires { from.now ≢ to.now }
-        ensures value { OnOk result (HasFile (namespace_directory self.old) from.now) }
-        ensures ok { OnOk result (namespace_directory self.new
-            ≡ after_rename from.now to.now (namespace_directory self.old)) }
-        ensures err { OnErr result (namespace_directory self.new ≡ namespace_directory self.old) }
-        ensures cause { IfErr result (IsMissing (namespace_directory self.old) from.now) }
+        ensures { ChangesFile from.now (after_rename from.now to.now) IsMissing result self.old
+            self.new }
     {
         if !self.files.contains_key(from) {
             return Err(FsFault::Io(IoKind::NotFound));

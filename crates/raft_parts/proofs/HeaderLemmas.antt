@@ -85,6 +85,10 @@ pub if_ok : {T E : Type 0} {P Q : T → Type 0} (r : Result T E) → IfOk r P �
 if_ok (Ok x) p f = f x p
 if_ok (Err e) p f = tt
 
+pub on_ok : {T E : Type 0} {R : Type 0} (r : Result T E) → R → OnOk r R
+on_ok (Ok x) p = p
+on_ok (Err e) p = tt
+
 pub if_both_ok : {T E : Type 0} {P Q : T → Type 0} {R : Type 0} (r : Result T E) → IfOk r P → OnOk r R → ((x : T) → P x → R → Q x) → IfOk r Q
 if_both_ok (Ok x) p r f = f x p r
 if_both_ok (Err e) p r f = tt

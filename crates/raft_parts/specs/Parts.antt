@@ -1,5 +1,5 @@
 -- Parts of a log file's bytes.
-use Rattle.std.specs.Prelude.{◌≡◌, ◌<◌, ◌≤◌, ℕ, ◌+◌, ◌-◌, ◌==◌, Bool, true, false, List, [], length, min, take, drop, Option, Some, None, if◌then◌else◌}
+use Rattle.std.specs.Prelude.{◌≡◌, ◌<◌, ◌≤◌, ℕ, ◌+◌, ◌-◌, ◌==◌, Bool, true, false, List, [], IfErr, IfOk, OnOk, Result, length, min, take, drop, Option, Some, None, if◌then◌else◌}
 use Rattle.std.specs.List.{AllByRecursion as Each}
 use Rattle.raft_base.specs.declared.errors.Fault.{Fault}
 use Rattle.raft_base.specs.declared.errors.Fault.TheVariants as fault
@@ -25,6 +25,15 @@ IsReadRefusal (fault.Io kind text) = Unit {0}
 IsReadRefusal fault.Memory = Unit {0}
 IsReadRefusal _ = ⊥
 
+-- of a file of this size of which these parts were given before a call and after it: it tells this
+-- of any bytes that the parts are of, among which the parts before are
+pub record ReadsParts {T : Type 0} (result : Result T Fault) (IsTold : T → List ℕ → Type 0)
+    (size : ℕ) (old new : List FilePart) : Type 0 where
+  pub value : IfOk result (λ told. (bytes : List ℕ) → length bytes ≡ size → AreOf bytes new
+      → IsTold told bytes)
+  pub given : OnOk result ((bytes : List ℕ) → AreOf bytes new → AreOf bytes old)
+  pub cause : IfErr result IsReadRefusal
+
 -- a file of these bytes begins with this header, and its records aren't aligned
 pub record BeginsWith (header : List ℕ) (format : LogFileFormat) (bytes : List ℕ) : Type 0 where
   pub rest : List ℕ
@@ -32,8 +41,8 @@ pub record BeginsWith (header : List ℕ) (format : LogFileFormat) (bytes : List
   pub header_is : header ≡ take (header_len format.version) bytes
   pub unaligned : format.alignment ≡ 0
 
--- a file whose parts are put behind a header: its size, and where the part begins, how many bytes it
--- is to have, and those that were read of it
+-- a file whose parts are put behind a header: its size, and where the part begins, how many bytes
+-- it is to have, and those that were read of it
 pub record PartsState : Type 0 where
   pub header : List ℕ
   pub size : ℕ
@@ -73,8 +82,8 @@ begun_with bytes (Some (format, rest)) = if format.alignment == 0 then record {
 abbrev pub read_of : ℕ → PartsState → ℕ
 read_of end p = min (end - length p.header) (length p.part)
 
--- the next part begins where the reading ended, and has more bytes than the rest of this one, or what
--- stands there is told
+-- the next part begins where the reading ended, and has more bytes than the rest of this one, or
+-- what stands there is told
 abbrev pub GoesOn : ℕ → PartsState → Bool → PartsState → Type 0
 GoesOn end old true new =
     (new ≡ record old { at = old.at + read_of end old; len = new.len; part = [] })

@@ -1,9 +1,9 @@
 //! What can be read of a log file of which one part at a time is in memory.
-ghost use Rattle.std.specs.Prelude.{◌≡◌, ◌++◌, ◌≤◌, ◌==◌, ◌-◌, ◌+◌, ◌^◌, ℕ, List, None, IfErr, IfOk, OnOk, drop, length, min, take};
+ghost use Rattle.std.specs.Prelude.{◌≡◌, ◌++◌, ◌≤◌, ◌==◌, ◌-◌, ◌+◌, ◌^◌, ℕ, List, None, IfErr, IfOk, drop, length, min, take};
 ghost use Rattle.std.specs.List.{list_all};
 ghost use Rattle.raft_dump.specs.Check.{IsCheckOf, IsReadingOf};
 ghost use Rattle.raft_dump.specs.Stale.{IsSearched, stale_len};
-ghost use Rattle.raft_parts.specs.Parts.{AreOf, BeginsWith, IsReadRefusal, IsWanted};
+ghost use Rattle.raft_parts.specs.Parts.{AreOf, BeginsWith, IsReadRefusal, IsWanted, ReadsParts};
 
 use crate::image::image_of_part;
 use crate::source::{PartSource, read_whole_part};
@@ -70,11 +70,8 @@ fn check_whole<S: PartSource>(
     size: usize,
     source: &mut S,
 ) -> Result<FileCheck, Fault>
-    ensures value { IfOk result (λ c. (bytes : List ℕ) → length bytes ≡ size
-        → AreOf bytes (S.given source.new) → IsReadingOf file.now.id bytes c) }
-    ensures given { IfOk result (λ _. (bytes : List ℕ) → AreOf bytes (S.given source.new)
-        → AreOf bytes (S.given source.old)) }
-    ensures cause { IfErr result IsReadRefusal }
+    ensures { ReadsParts result (λ c bytes. IsReadingOf file.now.id bytes c) size
+        (S.given source.old) (S.given source.new) }
 {
     let part = read_whole_part(alloc, file.path.as_str(), source, 0, size)?;
     check_part(alloc, file, &[], &part.bytes)
@@ -99,12 +96,8 @@ fn read_records<S: PartSource>(
     source: &mut S,
 ) -> Result<FileCheck, Fault>
     requires { length header.now ≤ size }
-    ensures value { IfOk result (λ c. (bytes : List ℕ) → length bytes ≡ size
-        → AreOf bytes (S.given source.new) → BeginsWith header.now format bytes
-        → IsReadingOf file.now.id bytes c) }
-    ensures given { OnOk result ((bytes : List ℕ) → AreOf bytes (S.given source.new)
-        → AreOf bytes (S.given source.old)) }
-    ensures cause { IfErr result IsReadRefusal }
+    ensures { ReadsParts result (λ c bytes. BeginsWith header.now format bytes
+        → IsReadingOf file.now.id bytes c) size (S.given source.old) (S.given source.new) }
 {
     let mut check = FileCheck {
         id: file.id,
@@ -155,12 +148,9 @@ fn has_zeros<S: PartSource>(
     size: usize,
     source: &mut S,
 ) -> Result<bool, Fault>
-    ensures value { IfOk result (λ zeros. (bytes : List ℕ) → length bytes ≡ size
-        → AreOf bytes (S.given source.new)
-        → zeros ≡ list_all (λ b. b == 0) (drop from bytes)) }
-    ensures given { IfOk result (λ _. (bytes : List ℕ) → AreOf bytes (S.given source.new)
-        → AreOf bytes (S.given source.old)) }
-    ensures cause { IfErr result IsReadRefusal }
+    ensures { ReadsParts result
+        (λ zeros bytes. zeros ≡ list_all (λ b. b == 0) (drop from bytes)) size
+        (S.given source.old) (S.given source.new) }
 {
     let mut at = from;
     'parts: while at < size {

@@ -1,5 +1,5 @@
 //! A shared engine, beside the front that its history is.
-ghost use Rattle.std.specs.Prelude.{◌≡◌, ◌⊎◌, ◌↔◌, ◌≤◌, ◌+◌, ◌-◌, ◌^◌, ◌++◌, ◌∷◌, [], false, true, Err, length, map, take, OnErr, IfOk, IfErr, IfNone, IfSome, IsOk, IsSomeAnd, Some, slice_get, if◌then◌else◌};
+ghost use Rattle.std.specs.Prelude.{◌≡◌, ◌⊎◌, ◌↔◌, ◌≤◌, ◌+◌, ◌-◌, ◌^◌, ◌++◌, ◌∷◌, [], false, true, length, map, take, OnErr, IfOk, IfErr, IfNone, IfSome, IsOk, IsSomeAnd, Some, if◌then◌else◌};
 ghost use Rattle.std.proofs.Props.{props};
 ghost use mathlib.Core.List.{IsPrefix};
 ghost use Rattle.raft_base.specs.Fault.{fault_code};
@@ -7,6 +7,7 @@ ghost use Rattle.raft_shared.specs.Shared.{history_of};
 ghost use Rattle.raft_shared.specs.Words.{event_of, told_by};
 ghost use Rattle.raft_tickets.specs.Calls.{event_by, is_done};
 ghost use Rattle.raft_tickets.specs.Durable.{AreDurableTo, IsFound};
+ghost use Rattle.raft_tickets.specs.Noted.{NotesCall};
 ghost use Rattle.raft_tickets.specs.Origin.{origin_of};
 
 use crate::book::{Book, Front, Naming};
@@ -37,7 +38,7 @@ pub struct Noted<J: Naming> {
 
 impl<F: FileSystem, J: Naming> Desk<F, J> {
     ghost use Rattle.raft_shared.specs.Settled.{AreSettled};
-    ghost use Rattle.raft_shared.specs.Shared.{HasRecordedNothing, IsButSeats, RecordsGet, RecordsPurge, RecordsSync, RecordsWrite, engine_of, limit_of, receipts_of, seats_of};
+    ghost use Rattle.raft_shared.specs.Shared.{HasRecordedNothing, IsButSeats, RecordsGet, RecordsPurge, RecordsSync, RecordsWrite, engine_of, receipts_of, seats_of};
 
     /// An engine that was just shared, with the front of a book that was just opened.
     pub(crate) fn new(shared: Shared<F>, front: Front<J>) -> Desk<F, J>
@@ -73,16 +74,10 @@ impl<F: FileSystem, J: Naming> Desk<F, J> {
         seat: &mut Seat,
         batch: &mut LogBatch,
     ) -> Result<Noted<J>, Fault>
-        ensures ok { IfOk result (λ noted. RecordsWrite batch.old.items batch.new.items false
-            self.old.shared self.new.shared seat.old seat.new noted.receipt) }
-        ensures front { IfOk result (λ noted. IfSome noted.front (λ front.
-            (front ≡ history_of self.new.shared) × (slice_get front noted.receipt.number
-            ≡ Some (event_by seat.old.number noted.receipt)))) }
-        ensures err { OnErr result (HasRecordedNothing self.old.shared self.new.shared seat.old
-            seat.new × (batch.new ≡ batch.old)) }
-        ensures full { (result ≡ Err Fault.TrailFull)
-            ↔ (length (history_of self.old.shared) ≡ limit_of self.old.shared) }
-        ensures cause { IfErr result (λ e. (e ≡ Fault.TrailFull) ⊎ (e ≡ Fault.Memory)) }
+        ensures { NotesCall (RecordsWrite batch.old.items batch.new.items false self.old.shared
+            self.new.shared seat.old seat.new) (HasRecordedNothing self.old.shared self.new.shared
+            seat.old seat.new × (batch.new ≡ batch.old)) seat.old.number result self.old.shared
+            self.new.shared }
     {
         let number = seat.number();
         let receipt = self.shared.write(seat, batch, false)?;
@@ -91,16 +86,9 @@ impl<F: FileSystem, J: Naming> Desk<F, J> {
 
     /// `Shared::sync`.
     pub(crate) fn sync(&mut self, book: &Book<J>, seat: &mut Seat) -> Result<Noted<J>, Fault>
-        ensures ok { IfOk result (λ noted. RecordsSync self.old.shared self.new.shared seat.old
-            seat.new noted.receipt) }
-        ensures front { IfOk result (λ noted. IfSome noted.front (λ front.
-            (front ≡ history_of self.new.shared) × (slice_get front noted.receipt.number
-            ≡ Some (event_by seat.old.number noted.receipt)))) }
-        ensures err { OnErr result (HasRecordedNothing self.old.shared self.new.shared seat.old
-            seat.new) }
-        ensures full { (result ≡ Err Fault.TrailFull)
-            ↔ (length (history_of self.old.shared) ≡ limit_of self.old.shared) }
-        ensures cause { IfErr result (λ e. (e ≡ Fault.TrailFull) ⊎ (e ≡ Fault.Memory)) }
+        ensures { NotesCall (RecordsSync self.old.shared self.new.shared seat.old seat.new)
+            (HasRecordedNothing self.old.shared self.new.shared seat.old seat.new) seat.old.number
+            result self.old.shared self.new.shared }
     {
         let number = seat.number();
         let receipt = self.shared.sync(seat)?;
@@ -137,16 +125,9 @@ impl<F: FileSystem, J: Naming> Desk<F, J> {
         group: u64,
         key: &[u8],
     ) -> Result<Noted<J>, Fault>
-        ensures ok { IfOk result (λ noted. RecordsGet group key.now self.old.shared
-            self.new.shared seat.old seat.new noted.receipt) }
-        ensures front { IfOk result (λ noted. IfSome noted.front (λ front.
-            (front ≡ history_of self.new.shared) × (slice_get front noted.receipt.number
-            ≡ Some (event_by seat.old.number noted.receipt)))) }
-        ensures err { OnErr result (HasRecordedNothing self.old.shared self.new.shared seat.old
-            seat.new) }
-        ensures full { (result ≡ Err Fault.TrailFull)
-            ↔ (length (history_of self.old.shared) ≡ limit_of self.old.shared) }
-        ensures cause { IfErr result (λ e. (e ≡ Fault.TrailFull) ⊎ (e ≡ Fault.Memory)) }
+        ensures { NotesCall (RecordsGet group key.now self.old.shared self.new.shared seat.old
+            seat.new) (HasRecordedNothing self.old.shared self.new.shared seat.old seat.new)
+            seat.old.number result self.old.shared self.new.shared }
     {
         let number = seat.number();
         let receipt = self.shared.get(seat, group, key)?;

@@ -39,12 +39,16 @@ loop-at-preserved g c =
       moments = leaves_others_then to so_far.moments (moves_weaker (λ m w. others_writing to _ _ mid m w) writing);
     }
 
-pub returns-in-Err-write-clause-any_moment : goal.returns-in-Err-write-clause-any_moment
-returns-in-Err-write-clause-any_moment g c =
+pub returns-in-Err-write-clause-writes : goal.returns-in-Err-write-clause-writes
+returns-in-Err-write-clause-writes g c =
     let f = g.F.FileSystem in
     let to = c.args.to.now in
     let n = f.directory c.args.file_system.now in
     let mid = f.directory c.loop-at.file_system in
     let new = f.directory c.write.new.self in
     let writing = moves_after_reads c.in_ok-count.ensures.unchanged (rw c.loop-at.invariant.writer at c.write.ensures.any_moment) in
-    leaves_others_then to c.loop-at.invariant.moments (moves_weaker (λ m w. others_writing to _ _ mid m w) writing)
+    record {
+      ok = tt;
+      folders = tt;
+      any_moment = leaves_others_then to c.loop-at.invariant.moments (moves_weaker (λ m w. others_writing to _ _ mid m w) writing);
+    }

@@ -59,7 +59,7 @@ pub returns-in_err-copy_file-clause-any_moment : goal.returns-in_err-copy_file-c
 returns-in_err-copy_file-clause-any_moment g c =
     let so_far = c.loop-file.invariant in
     let next = next_copy c.args.target.now c.args.files.now c.loop-file.file-index c.file-item.result _ (g.F.FileSystem.directory c.loop-file.file_system) (omega (arith, c.loop-file-test.true)) c.file-item.is c.requires so_far.copied so_far.others in
-    copy_moves c.args.target.now c.args.files.now c.loop-file.file-index c.file-item.result c.as_str-in-loop-file.result.now next (c.as_str-in-loop-file.ensures.value ∙ c.in_ok-path.ensures.ok) so_far.moments c.copy_file.ensures.any_moment
+    copy_moves c.args.target.now c.args.files.now c.loop-file.file-index c.file-item.result c.as_str-in-loop-file.result.now next (c.as_str-in-loop-file.ensures.value ∙ c.in_ok-path.ensures.ok) so_far.moments c.copy_file.ensures.writes.any_moment
 
 pub returns-in_err-copy_file-clause-cause : goal.returns-in_err-copy_file-clause-cause
 returns-in_err-copy_file-clause-cause g c =
@@ -75,7 +75,7 @@ pub returns-in_err-push-clause-any_moment : goal.returns-in_err-push-clause-any_
 returns-in_err-push-clause-any_moment g c =
     let so_far = c.loop-file.invariant in
     let next = next_copy c.args.target.now c.args.files.now c.loop-file.file-index c.file-item.result _ (g.F.FileSystem.directory c.loop-file.file_system) (omega (arith, c.loop-file-test.true)) c.file-item.is c.requires so_far.copied so_far.others in
-    copy_moves c.args.target.now c.args.files.now c.loop-file.file-index c.file-item.result c.as_str-in-loop-file.result.now next (c.as_str-in-loop-file.ensures.value ∙ c.in_ok-path.ensures.ok) so_far.moments c.copy_file.ensures.any_moment
+    copy_moves c.args.target.now c.args.files.now c.loop-file.file-index c.file-item.result c.as_str-in-loop-file.result.now next (c.as_str-in-loop-file.ensures.value ∙ c.in_ok-path.ensures.ok) so_far.moments c.copy_file.ensures.writes.any_moment
 
 pub returns-in_err-push-clause-cause : goal.returns-in_err-push-clause-cause
 returns-in_err-push-clause-cause g c =
@@ -96,9 +96,9 @@ loop-file-preserved g c =
     let next = next_copy target files i item n mid (omega (arith, c.loop-file-test.true)) c.file-item.is c.requires so_far.copied so_far.others in
     let to_is : c.as_str-in-loop-file.result.now ≡ copy_in target (source_of item) = c.as_str-in-loop-file.ensures.value ∙ c.in_ok-path.ensures.ok in
     let after = f.directory c.copy_file.new.file_system in
-    let only : LeavesOthers (copy_in target (source_of item)) mid after = subst (λ path. LeavesOthers path mid after) to_is c.copy_file.ensures.any_moment.throughout.here in
+    let only : LeavesOthers (copy_in target (source_of item)) mid after = subst (λ path. LeavesOthers path mid after) to_is c.copy_file.ensures.writes.any_moment.throughout.here in
     let written = c.copy_file.new.buffer in
-    let durable : IsDurable (copy_in target (source_of item)) (bytes_at (string_bytes item.path) mid) after = rw (sym to_is, sym c.as_str.ensures.value) c.in_ok-copy_file.ensures.ok in
+    let durable : IsDurable (copy_in target (source_of item)) (bytes_at (string_bytes item.path) mid) after = rw (sym to_is, sym c.as_str.ensures.value) c.in_ok-copy_file.ensures.writes.ok in
     let paths : map string_bytes c.push.new.self.items ≡ copies_in target (front ++ source_of item ∷ []) =
     ap (map string_bytes) c.in_ok-push.ensures.items ∙ map-append string_bytes c.loop-file.copied.items (c.in_ok-path.path ∷ [])
     ∙ ap (λ xs. xs ++ string_bytes c.in_ok-path.path ∷ []) so_far.copies ∙ ap (λ path. copies_in target front ++ path ∷ []) c.in_ok-path.ensures.ok
@@ -108,8 +108,8 @@ loop-file-preserved g c =
       copies = paths ∙ ap (copies_in target) (sym (next_part files i item next.within next.place));
       copied = next_copied target files i item n mid next after only durable;
       others = next_others target files i item n mid next after only;
-      folders = c.in_ok-copy_file.ensures.folders ∙ so_far.folders;
-      moments = copy_moves target files i item c.as_str-in-loop-file.result.now next to_is so_far.moments c.copy_file.ensures.any_moment;
+      folders = c.in_ok-copy_file.ensures.writes.folders ∙ so_far.folders;
+      moments = copy_moves target files i item c.as_str-in-loop-file.result.now next to_is so_far.moments c.copy_file.ensures.writes.any_moment;
     }
 
 pub returns-clause-copies : goal.returns-clause-copies

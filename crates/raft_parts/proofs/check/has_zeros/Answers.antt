@@ -5,12 +5,16 @@ use Rattle.raft_parts.specs.Parts.{AreOf}
 use Rattle.raft_parts.proofs.PartLemmas.{bytes_of_part}
 use Rattle.raft_parts.proofs.check.has_zeros.Goals as goal
 
-pub returns-then-not-are_zeros-clause-value : goal.returns-then-not-are_zeros-clause-value
-returns-then-not-are_zeros-clause-value g c = λ bytes size_is are.
-    let e = c.in_ok-part.ensures in
-    let split = subst (AreOf bytes) e.ok are in
-    let inv = c.parts.invariant in
-    zeros_off bytes c.args.from c.parts.at c.min-len.result (inv.0 bytes size_is split.1) (ap (list_all (λ b. b == 0)) (sym (bytes_of_part bytes c.in_ok-part.part c.parts.at c.min-len.result e.value.0 e.value.1 split.0) ∙ sym c.deref.ensures.value) ∙ sym c.are_zeros.ensures.value ∙ c.if-not-are_zeros.true)
+pub returns-then-not-are_zeros : goal.returns-then-not-are_zeros
+returns-then-not-are_zeros g c = record {
+  value = λ bytes size_is are.
+      let e = c.in_ok-part.ensures in
+      let split = subst (AreOf bytes) e.ok are in
+      let inv = c.parts.invariant in
+      zeros_off bytes c.args.from c.parts.at c.min-len.result (inv.0 bytes size_is split.1) (ap (list_all (λ b. b == 0)) (sym (bytes_of_part bytes c.in_ok-part.part c.parts.at c.min-len.result e.value.0 e.value.1 split.0) ∙ sym c.deref.ensures.value) ∙ sym c.are_zeros.ensures.value ∙ c.if-not-are_zeros.true);
+  given = λ bytes are. c.parts.invariant.1 bytes (subst (AreOf bytes) c.in_ok-part.ensures.ok are).1;
+  cause = tt;
+}
 
 pub parts-preserved : goal.parts-preserved
 parts-preserved g c =
@@ -21,6 +25,3 @@ parts-preserved g c =
           zeros_on bytes c.args.from c.parts.at c.min-len.result (inv.0 bytes size_is split.1) (ap (list_all (λ b. b == 0)) (sym (bytes_of_part bytes c.in_ok-part.part c.parts.at c.min-len.result e.value.0 e.value.1 split.0) ∙ sym c.deref.ensures.value) ∙ sym c.are_zeros.ensures.value ∙ c.if-not-are_zeros.false),
       λ bytes are. inv.1 bytes (subst (AreOf bytes) e.ok are).1,
     )
-
-pub returns-then-not-are_zeros-clause-given : goal.returns-then-not-are_zeros-clause-given
-returns-then-not-are_zeros-clause-given g c = λ bytes are. c.parts.invariant.1 bytes (subst (AreOf bytes) c.in_ok-part.ensures.ok are).1

@@ -39,8 +39,12 @@ parts-preserved g c =
       λ bytes are. inv.6 bytes (subst (AreOf bytes) e.ok are).1,
     )
 
-pub returns-clause-value : goal.returns-clause-value
-returns-clause-value g c = λ bytes size_is are begins.
-    let inv = c.parts.invariant in
-    let found = inv.5 bytes size_is are begins in
-    reading_ends c.args.file.now.id bytes (cursor c.args.file.now.id c.args.format bytes c.parts.check.end) c.parts.check.records c.parts.check found.0 (found.1 c.in_default.is) inv.0 (inv.1 ∙ sym size_is) inv.2 refl refl
+pub returns : goal.returns
+returns g c = record {
+  value = λ bytes size_is are begins.
+      let inv = c.parts.invariant in
+      let found = inv.5 bytes size_is are begins in
+      reading_ends c.args.file.now.id bytes (cursor c.args.file.now.id c.args.format bytes c.parts.check.end) c.parts.check.records c.parts.check found.0 (found.1 c.in_default.is) inv.0 (inv.1 ∙ sym size_is) inv.2 refl refl;
+  given = c.parts.invariant.6;
+  cause = tt;
+}

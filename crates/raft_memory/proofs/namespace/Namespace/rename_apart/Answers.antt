@@ -16,18 +16,19 @@ unreachable-requires c = grind (arith, text_keys)
 pub unreachable-requires-in_default-insert : goal.unreachable-requires-in_default-insert
 unreachable-requires-in_default-insert c = grind (arith, text_keys)
 
-pub returns-then-not-contains_key-clause-cause : goal.returns-then-not-contains_key-clause-cause
-returns-then-not-contains_key-clause-cause c =
+pub returns-then-not-contains_key : goal.returns-then-not-contains_key
+returns-then-not-contains_key c =
     let lacks : is_some (tree.get_by_text c.args.self.now.files c.args.from.now) ≡ false = grind (arith, common_steps) in
-    inr (refl, file_at-namespace_directory c.args.self.now c.args.from.now ∙ none_from_not_some _ lacks)
+    record {
+      value = tt;
+      ok = tt;
+      err = refl;
+      cause = inr (refl, file_at-namespace_directory c.args.self.now c.args.from.now ∙ none_from_not_some _ lacks);
+    }
 
-pub returns-clause-value : goal.returns-clause-value
-returns-clause-value c =
+pub returns : goal.returns
+returns c =
     let found : is_some (tree.get_by_text c.args.self.now.files c.args.from.now) ≡ true = grind (arith, common_steps) in
-    ap is_some (file_at-namespace_directory c.args.self.now c.args.from.now) ∙ found
-
-pub returns-clause-ok : goal.returns-clause-ok
-returns-clause-ok c =
     let old = c.args.self.now.files in
     let roomy = c.insert.new.self in
     let without = c.remove.new.self in
@@ -41,4 +42,9 @@ returns-clause-ok c =
     let taken : directory_of without folders ≡ without_file from (directory_of roomy folders) = removed_after roomy without folders from c.remove.ensures.updates in
     let there : directory_of c.insert-2.new.self folders ≡ with_file to moved (directory_of without folders) = placed_key without c.insert-2.new.self folders c.in_ok-second.second to c.rename.new.self moved c.in-Ok.ensures.updates second c.rename.ensures in
     let stood : tree.get_by_text old from ≡ Some c.in-Some.file = grind (arith, text_keys) in
-    there ∙ ap (with_file to moved) (taken ∙ ap (without_file from) room) ∙ renamed_after_room (directory_of old folders) from to c.in-Some.file (synced_file []) (file_at-namespace_directory c.args.self.now from ∙ stood)
+    record {
+      value = ap is_some (file_at-namespace_directory c.args.self.now c.args.from.now) ∙ found;
+      ok = there ∙ ap (with_file to moved) (taken ∙ ap (without_file from) room) ∙ renamed_after_room (directory_of old folders) from to c.in-Some.file (synced_file []) (file_at-namespace_directory c.args.self.now from ∙ stood);
+      err = tt;
+      cause = tt;
+    }

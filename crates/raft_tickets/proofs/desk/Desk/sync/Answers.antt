@@ -8,16 +8,18 @@ use Rattle.raft_tickets.proofs.Noting.{begins_so, front_begins, front_ends}
 use Rattle.raft_tickets.proofs.Origins.{origin_kept, origin_so}
 use Rattle.raft_tickets.proofs.desk.Desk.sync.Goals as goal
 
-pub returns-clause-ok : goal.returns-clause-ok
-returns-clause-ok g c =
-    subst (λ (r : Receipt). RecordsSync c.args.self.now.shared c.sync.new.self c.args.seat.now c.sync.new.seat r) (sym c.note.ensures.receipt) c.in_ok-receipt.ensures.ok
-
-pub returns-clause-front : goal.returns-clause-front
-returns-clause-front g c =
+pub returns : goal.returns
+returns g c =
     let old = c.args.self.now in
     let ok = c.in_ok-receipt.ensures.ok in
-    subst (λ (r : Receipt). IfSome c.note.result.front (λ l. (l ≡ history_of c.sync.new.self) × (slice_get l r.number ≡ Some (event_by c.args.seat.now.number r)))) (sym c.note.ensures.receipt)
-    (front_ends _ _ _ _ _ _ _ ok.recorded old.front old.begins _ _ (rw c.number-number.ensures.value at c.note.ensures.some))
+    record {
+      ok = subst (λ (r : Receipt). RecordsSync c.args.self.now.shared c.sync.new.self c.args.seat.now c.sync.new.seat r) (sym c.note.ensures.receipt) c.in_ok-receipt.ensures.ok;
+      front = subst (λ (r : Receipt). IfSome c.note.result.front (λ l. (l ≡ history_of c.sync.new.self) × (slice_get l r.number ≡ Some (event_by c.args.seat.now.number r)))) (sym c.note.ensures.receipt)
+          (front_ends _ _ _ _ _ _ _ ok.recorded old.front old.begins _ _ (rw c.number-number.ensures.value at c.note.ensures.some));
+      err = tt;
+      full = (λ is. absurd (cc is), λ room. absurd (cc (c.in_ok-receipt.ensures.full.1 room)));
+      cause = tt;
+    }
 
 pub invariant_of-self-2 : goal.invariant_of-self-2
 invariant_of-self-2 g c =
