@@ -3,3 +3,4 @@ pub mod Machines
 pub mod Workers
 pub mod Parts
 pub mod Reading
+pub mod Opened

@@ -12,7 +12,7 @@ pub mod still_laws;
 
 pub use metadata::clear_metadata;
 pub use opened_log::{OpenedLog, end_logs, open_logs, replay_logs};
-pub use pipe_builder::{DEFAULT_FIRST_FILE_SEQ, NewPipe, settle_or_begin};
+pub use pipe_builder::{DEFAULT_FIRST_FILE_SEQ, settle_or_begin};
 pub use prefill::SpareLimits;
 pub use read::read_files;
 pub use replay::{ReplayMachine, ReplayedLog};

@@ -9,9 +9,10 @@ ghost use Rattle.raft_pipes.specs.QueueFiles.{HasFilesAfter, HasFilesBefore, IsD
 ghost use Rattle.raft_pipes.specs.Counts.{IsLeftOf, QueueCounts};
 
 /// A queue with files of dropped batches right before its own. Any file with a number below its own
-/// may go (`gone`), and come under the number after the last one (`renamed`). Its first own file may
-/// be dropped (`dropped`). At each such moment a crash leaves its batches without some of the dropped
-/// and of the unsynced ones (`keeps`, `left`), which are so split (`split`). A queue without dropped ones is one of them (`own`).
+/// may go (`gone`), and come under the number after the last one (`renamed`). Its first own file
+/// may be dropped (`dropped`). At each such moment a crash leaves its batches without some of the
+/// dropped and of the unsynced ones (`keeps`, `left`), which are so split (`split`). A queue
+/// without dropped ones is one of them (`own`).
 pub fn files_below_may_go()
     ensures own { (folders : List Path) (queue : LogQueue) (first : ℕ) (before : List QueueFile)
         (seq : ℕ) (path : Path) (n : Directory)

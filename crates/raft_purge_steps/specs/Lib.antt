@@ -6,6 +6,7 @@ pub mod Renewing
 pub mod Gathering
 pub mod Keeping
 pub mod Rewriting
+pub mod Rotates
 pub mod Scope
 pub mod Steps
 pub mod Unfit

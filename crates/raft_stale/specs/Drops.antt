@@ -25,8 +25,8 @@ use Rattle.raft_purge_steps.specs.declared.fault.StepFault.{StepFault}
 use Rattle.raft_stale.specs.Dropping.{IfFails, KeepsFront}
 use Rattle.raft_stale.specs.Scope.{HasLostFront, first_left, up_to_barrier}
 
--- some of a queue's first files go: how many. It ends with the same file, and `Begins` says where it
--- begins; the other queue's pipe is the same
+-- some of a queue's first files go: how many. It ends with the same file, and `Begins` says where
+-- it begins; the other queue's pipe is the same
 pub record LosesFiles {E : Type 0} (queue : LogQueue) (Begins : PipeState → PipeState → Type 0)
     (result : Result ℕ E) (d d' : DualState) : Type 0 where
   pub others : KeepsOtherPipe queue d d'
@@ -42,8 +42,9 @@ pub record LosesSynced (queue : LogQueue) (Begins : PipeState → PipeState → 
   pub side : StandSideBySide d' n'
   pub cause : IfErr result (IsDualReadRefusal d old new)
 
--- the Append queue ends with the same file. It begins with the first one in which something stands, or
--- with the barrier if that comes before; so behind files in which nothing may move
+-- the Append queue ends with the same file. It begins with the first one in which something stands,
+-- or with the barrier if that comes before, or where it began if that is later; so behind files in
+-- which nothing may move
 pub record HasFrontLeft (barrier : Option ℕ) (m : MemTables) (p p' : PipeState) : Type 0 where
   pub span : p'.first ≡ first_left barrier p m
   pub last : last_seq p' ≡ last_seq p
@@ -51,8 +52,8 @@ pub record HasFrontLeft (barrier : Option ℕ) (m : MemTables) (p p' : PipeState
       (watermark : ℕ) → watermark < last_seq p → AreAllEmptied watermark (tables_of m)
       → up_to_barrier barrier (suc watermark) ≤ p'.first
 
--- the Append queue went on to a next file, and begins with the first one in which something stands, or
--- where it began if that is later; no mark is owed
+-- the Append queue went on to a next file, and begins with the first one in which something stands,
+-- or where it began if that is later; no mark is owed
 pub record HasPurgedFront (m : MemTables) (owed' : Owed) (p p' : PipeState) : Type 0 where
   pub span : p'.first ≡ max p.first (first_of_tables Append (suc (last_seq p)) m)
   pub rotated : last_seq p' ≡ suc (last_seq p)
@@ -61,8 +62,8 @@ pub record HasPurgedFront (m : MemTables) (owed' : Owed) (p p' : PipeState) : Ty
 -- on files of which these are the directory, its moments and the refusals of calls
 module _ {F : Type 0} (directory : F → Directory) (moments : F → List Directory)
     (refusals_of : F → Refusals) where
-  -- marks that are owed are written to the Rewrite queue: the log is kept, whichever of these stand for
-  -- it in memory. Where that fails as many are owed as before
+  -- marks that are owed are written to the Rewrite queue: the log is kept, whichever of these stand
+  -- for it in memory. Where that fails as many are owed as before
   pub record WritesMarks {T X L : Type 0} {g : Ghosts L} (result : Result T StepFault)
       (i i' : X → LogIndex) (owed owed' : Owed) (d d' : DualState) (old new : F)
       (events events' : PurgeEvents L g) : Type 0 where
@@ -71,9 +72,9 @@ module _ {F : Type 0} (directory : F → Directory) (moments : F → List Direct
     pub cut : OnOk result (KeepsCut events events')
     pub err : OnErr result (owed' ≡ owed)
 
-  -- files of a queue in which nothing stands are dropped: how many; where the log is in doubt it begins
-  -- as before. The log is kept, whichever of these stand for it in memory, and the batches that were
-  -- written are cut. `IsUnfit` says why one can't be written
+  -- files of a queue in which nothing stands are dropped: how many; where the log is in doubt it
+  -- begins as before. The log is kept, whichever of these stand for it in memory, and the batches
+  -- that were written are cut. `IsUnfit` says why one can't be written
   pub record Drops {X L : Type 0} {g : Ghosts L} (queue : LogQueue) (IsUnfit : Fault → Type 0)
       (result : Result ℕ StepFault) (i i' : X → LogIndex) (d d' : DualState) (old new : F)
       (events events' : PurgeEvents L g) : Type 0 where
@@ -84,8 +85,9 @@ module _ {F : Type 0} (directory : F → Directory) (moments : F → List Direct
     pub cause : IfErr result (IsPurgeRefusal d d' (directory new) (refusals_of old)
         (refusals_of new) IsUnfit)
 
-  -- .. of the Append queue, behind a rotation, with all marks that are owed written; whichever of these
-  -- groups are known. However it ends, no file is dropped from the first one on in which something stands
+  -- .. of the Append queue, behind a rotation, with all marks that are owed written; whichever of
+  -- these groups are known. However it ends, no file is dropped from the first one on in which
+  -- something stands
   pub record PurgesFront {X L : Type 0} {g : Ghosts L} (m : MemTables) (known : X → KnownGroups)
       (result : Result ℕ StepFault) (owed owed' : Owed) (d d' : DualState) (old new : F)
       (events events' : PurgeEvents L g) : Type 0 where

@@ -12,9 +12,10 @@ use Rattle.raft_purge_steps.specs.declared.fault.StepFault.{StepFault}
 -- on files of which these are the directory, its moments and the refusals of calls
 module _ {F : Type 0} (directory : F → Directory) (moments : F → List Directory)
     (refusals_of : F → Refusals) where
-  -- the other queue's pipe is the same, and this one begins with the same file, in the same folders.
-  -- Unless the log is in doubt it holds what it held, whatever stands for it in memory, and at each
-  -- moment a crash finds that. Nothing is written that could be unfit
+  -- the other queue's pipe is the same, and this one begins with the same file; where it is
+  -- answered, both are in the same folders. Unless the log is in doubt it holds what it held,
+  -- whatever stands for it in memory, and at each moment a crash finds that. Nothing is written
+  -- that could be unfit
   pub record Rotates {T : Type 0} (queue : LogQueue) (result : Result T StepFault)
       (d d' : DualState) (old new : F) : Type 0 where
     pub others : KeepsOtherPipe queue d d'
