@@ -34,6 +34,7 @@ static uint64_t calls(raftlog *log, int *code) {
         if (i == 23) *code = raftlog_must_rewrite_append_groups(log, &watermark, &group, 0);
         if (i == 25) *code = raftlog_must_rewrite_append_queue(log, NULL);
         if (i == 30) *code = raftlog_must_purge_all_stale(log, NULL);
+        if (i == 33) group = 0, *code = raftlog_must_rewrite_rewrite_groups(log, &group, 0);
         if (i == 35) *code = raftlog_must_rewrite_rewrite_queue(log, NULL);
     }
     raftlog_batch_free(batch);

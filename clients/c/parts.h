@@ -30,6 +30,7 @@ void raft_c_compact_to(raft_c_handle *, uint64_t, uint64_t);
 void raft_c_must_rewrite_append_queue(raft_c_handle *);
 void raft_c_must_rewrite_append_groups(raft_c_handle *, uint64_t, uint64_t, uint64_t);
 void raft_c_must_rewrite_rewrite_queue(raft_c_handle *);
+void raft_c_must_rewrite_rewrite_groups(raft_c_handle *, uint64_t, uint64_t);
 void raft_c_must_purge_all_stale(raft_c_handle *);
 void raft_c_purge_expired_files(raft_c_handle *, uint64_t);
 int32_t raft_c_settle(raft_c_handle *, bool);
@@ -54,6 +55,7 @@ enum parts_kind {
     PARTS_REWRITE_APPEND,
     PARTS_REWRITE_GROUPS,
     PARTS_REWRITE_REWRITE,
+    PARTS_RENEW_GROUPS,
     PARTS_PURGE_STALE,
     PARTS_PURGE_EXPIRED,
     PARTS_CLOSE

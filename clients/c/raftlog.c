@@ -232,6 +232,14 @@ int raftlog_must_rewrite_rewrite_queue(raftlog *log, uint64_t *count) {
     return counted(log, (struct parts_change){.kind = PARTS_REWRITE_REWRITE}, count);
 }
 
+int raftlog_must_rewrite_rewrite_groups(raftlog *log, uint64_t *group, uint64_t budget) {
+    if (!log || !group) return refuse(log, RAFTLOG_INVALID);
+    struct parts_change some = {.kind = PARTS_RENEW_GROUPS, .from = *group, .budget = budget};
+    int code = change(log, &some);
+    if (!code) *group = some.found;
+    return code;
+}
+
 int raftlog_must_purge_all_stale(raftlog *log, uint64_t *count) {
     return counted(log, (struct parts_change){.kind = PARTS_PURGE_STALE}, count);
 }

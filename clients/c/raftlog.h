@@ -42,7 +42,8 @@
  * aren't in memory, and until a purge has moved all that it moves (it reads cold entries from the disk,
  * and what it writes but for the last RAFTLOG_PURGE_BYTES is carried out meanwhile, so that it needn't
  * stand in memory). `raftlog_must_rewrite_append_queue` lets reads in after each RAFTLOG_MOVED_BYTES, and
- * where one group has more after that group; `raftlog_must_rewrite_append_groups` lets in writes too.
+ * where one group has more after that group; `raftlog_must_rewrite_append_groups`, and for the Rewrite queue
+ * `raftlog_must_rewrite_rewrite_groups`, let in writes too.
  *
  * What is proved, of the functions behind these (crates/raft_c): of each code, what the log has done and
  * what it holds then; of a failure, why it comes; and that at each moment inside a call a crash leaves
@@ -311,6 +312,18 @@ int raftlog_must_purge_all_stale(raftlog *log, uint64_t *count);
  *   if (code == RAFTLOG_OK) code = raftlog_must_purge_all_stale(log, NULL);
  * Then all of these files are gone, and of what was written meanwhile nothing was written again. */
 int raftlog_must_rewrite_append_groups(raftlog *log, uint64_t *watermark, uint64_t *group, uint64_t budget);
+
+/* The second of them in short calls, between which others write: the first call, with 0 as `*group`, goes on to a next file
+ * of the Rewrite queue, and each writes again what the groups from `*group` on have in that queue, as many groups as have
+ * `budget` bytes there together, but one at least, whatever it has. It puts there from which group the next call goes on,
+ * 0 where none is left: then the files before are gone, if each atomic group stands together in them, as this library
+ * writes it. On a failure it stays. An opening or another purge, of whichever thread, ends such calls, and a
+ * failure may: begin again with 0, else the files before stay. Calls that were left half-way aren't ended: with 0 again
+ * they go on with the same next file.
+ *   uint64_t group = 0;
+ *   do code = raftlog_must_rewrite_rewrite_groups(log, &group, 1 << 20);
+ *   while (code == RAFTLOG_OK && group); */
+int raftlog_must_rewrite_rewrite_groups(raftlog *log, uint64_t *group, uint64_t budget);
 
 /* ---- reads, which change nothing that the log holds */
 

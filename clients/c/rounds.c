@@ -160,6 +160,9 @@ static void call(raft_c_handle *handle, const struct parts_change *change, bool 
         raft_c_must_rewrite_append_groups(handle, change->watermark, change->from, change->budget);
         break;
     case PARTS_REWRITE_REWRITE: raft_c_must_rewrite_rewrite_queue(handle); break;
+    case PARTS_RENEW_GROUPS:
+        raft_c_must_rewrite_rewrite_groups(handle, change->from, change->budget);
+        break;
     case PARTS_PURGE_STALE: raft_c_must_purge_all_stale(handle); break;
     /* No file is kept for anybody. */
     case PARTS_PURGE_EXPIRED: raft_c_purge_expired_files(handle, UINT64_MAX); break;

@@ -257,6 +257,15 @@ static void short_purges(raftlog *log) {
         while (raftlog_next_pair(&bytes, &at, &key, &value)) pairs += value.len == 1000;
     }
     CHECK(pairs == 1000);
+    group = 0, purges = 0;
+    do {
+        before = group;
+        CHECK(raftlog_must_rewrite_rewrite_groups(log, &group, 25000) == 0 && (!group || group > before));
+        purges++;
+    } while (group);
+    CHECK(purges >= 20);
+    CHECK(raftlog_must_rewrite_rewrite_groups(log, NULL, 0) == RAFTLOG_INVALID);
+    CHECK(raftlog_must_rewrite_rewrite_groups(NULL, &group, 0) == RAFTLOG_INVALID);
     group = 3;
     CHECK(raftlog_must_rewrite_append_groups(log, NULL, &group, 0) == RAFTLOG_INVALID && group == 3);
     CHECK(raftlog_must_rewrite_append_groups(log, &watermark, NULL, 0) == RAFTLOG_INVALID);

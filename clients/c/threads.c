@@ -118,6 +118,10 @@ static int compact_and_purge(struct writer *w, uint64_t i) {
         IS(raftlog_must_rewrite_append_queue(w->log, NULL), RAFTLOG_OK);
     if (w->group == 2 && i % 16 == 13)
         IS(raftlog_must_rewrite_append_groups(w->log, &watermark, &group, 1000), RAFTLOG_OK);
+    if (w->group == 3 && i % 16 == 15) {
+        group = 0;
+        IS(raftlog_must_rewrite_rewrite_groups(w->log, &group, 1000), RAFTLOG_OK);
+    }
     if (w->group == 3 && i % 16 == 7)
         IS(raftlog_must_rewrite_rewrite_queue(w->log, NULL), RAFTLOG_OK);
     if (w->group == 4 && i % 16 == 9) IS(raftlog_must_purge_all_stale(w->log, &count), RAFTLOG_OK);

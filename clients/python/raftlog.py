@@ -64,6 +64,7 @@ for _name, _result, _arguments in [
     ("compact_to", c_int, [c_void_p, c_uint64, c_uint64, POINTER(c_uint64)]),
     ("must_rewrite_append_queue", c_int, [c_void_p, POINTER(c_uint64)]),
     ("must_rewrite_append_groups", c_int, [c_void_p, POINTER(c_uint64), POINTER(c_uint64), c_uint64]),
+    ("must_rewrite_rewrite_groups", c_int, [c_void_p, POINTER(c_uint64), c_uint64]),
     ("must_rewrite_rewrite_queue", c_int, [c_void_p, POINTER(c_uint64)]),
     ("must_purge_all_stale", c_int, [c_void_p, POINTER(c_uint64)]),
     ("purge_expired_files", c_int, [c_void_p, POINTER(_Bytes)]),
@@ -264,6 +265,15 @@ class Engine:
         watermark, group = c_uint64(watermark), c_uint64(group)
         self._call("must_rewrite_append_groups", byref(watermark), byref(group), c_uint64(budget))
         return watermark.value, group.value or None
+
+    def must_rewrite_rewrite_groups(self, group, budget):
+        """Does what must_rewrite_rewrite_queue does in short calls, between which others write: writes again what the groups
+        from one on (0 in the first call) have in the Rewrite queue's files, as many groups as have budget bytes in that
+        queue, but one at least. Answers the group of the next call, None behind the last: then the old files are gone.
+        An opening or another purge ends such calls, and a failure may: begin again with 0."""
+        group = c_uint64(group)
+        self._call("must_rewrite_rewrite_groups", byref(group), c_uint64(budget))
+        return group.value or None
 
     def must_rewrite_rewrite_queue(self):
         """Writes what stands in the log files of the Rewrite queue to a new one, drops them, and says how many."""

@@ -50,6 +50,9 @@ package raftlog
 // static int must_rewrite_append_groups(raftlog *log, uint64_t *watermark, uint64_t *group, uint64_t budget, char **text) {
 //     return told(log, raftlog_must_rewrite_append_groups(log, watermark, group, budget), text);
 // }
+// static int must_rewrite_rewrite_groups(raftlog *log, uint64_t *group, uint64_t budget, char **text) {
+//     return told(log, raftlog_must_rewrite_rewrite_groups(log, group, budget), text);
+// }
 // static int must_rewrite_rewrite_queue(raftlog *log, uint64_t *count, char **text) {
 //     return told(log, raftlog_must_rewrite_rewrite_queue(log, count), text);
 // }
@@ -433,6 +436,22 @@ func (e *Engine) MustRewriteAppendGroups(watermark, group, budget uint64) (uint6
 		return watermark, group, err
 	}
 	return uint64(c.first), uint64(c.last), nil
+}
+
+// MustRewriteRewriteGroups does what MustRewriteRewriteQueue does in short calls, between which others write. It writes again
+// what the groups from one on (0 in the first call) have in the Rewrite queue's files, as many groups as have budget bytes
+// in that queue, but one at least, and answers the group of the next call, 0 behind the last one: then the old files are
+// gone. An opening or another purge ends such calls, and an error may: begin again with 0.
+func (e *Engine) MustRewriteRewriteGroups(group, budget uint64) (uint64, error) {
+	c, _, err := e.do(func(log *C.raftlog, c *call) C.int {
+		c.first = C.uint64_t(group)
+		return C.must_rewrite_rewrite_groups(log, &c.first, C.uint64_t(budget), &c.text)
+	})
+	defer c.end()
+	if err != nil {
+		return group, err
+	}
+	return uint64(c.first), nil
 }
 
 // MustRewriteRewriteQueue writes what stands in the log files of the Rewrite queue to a new one, and drops them; it

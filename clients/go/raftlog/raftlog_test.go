@@ -82,6 +82,15 @@ func exercise(t *testing.T, log *Engine) {
 	if watermark == math.MaxUint64 || err != nil {
 		t.Fatal(watermark, err)
 	}
+	if group, err = log.MustRewriteRewriteGroups(0, 0); err != nil {
+		t.Fatal(group, err)
+	}
+	for err == nil && group != 0 {
+		group, err = log.MustRewriteRewriteGroups(group, 0)
+	}
+	if err != nil {
+		t.Fatal(err)
+	}
 	if _, err = log.MustRewriteAppendQueue(); err != nil {
 		t.Fatal(err)
 	}

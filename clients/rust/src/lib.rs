@@ -533,6 +533,16 @@ impl Engine {
         Ok((watermark, (group != 0).then_some(group)))
     }
 
+    /// Does what `must_rewrite_rewrite_queue` does in short calls, between which others write: writes again what the groups
+    /// from one on (0 in the first call) have in the Rewrite queue's files, as many groups as have `budget` bytes in that
+    /// queue, but one at least. Says the group of the next call; behind the last one the old files are gone. An opening or
+    /// another purge ends such calls, and a failure may: begin again with 0.
+    pub fn must_rewrite_rewrite_groups(&self, group: u64, budget: u64) -> Result<Option<u64>> {
+        let mut group = group;
+        self.done(unsafe { sys::raftlog_must_rewrite_rewrite_groups(self.log, &mut group, budget) })?;
+        Ok((group != 0).then_some(group))
+    }
+
     /// Writes what stands in the log files of the Rewrite queue to a new one, drops them, and says how many.
     pub fn must_rewrite_rewrite_queue(&self) -> Result<u64> {
         let mut count = 0;

@@ -73,6 +73,7 @@ extern "C" {
     pub fn raftlog_compact_to(log: *mut raftlog, group: u64, index: u64, count: *mut u64) -> c_int;
     pub fn raftlog_must_rewrite_append_queue(log: *mut raftlog, count: *mut u64) -> c_int;
     pub fn raftlog_must_rewrite_append_groups(log: *mut raftlog, watermark: *mut u64, group: *mut u64, budget: u64) -> c_int;
+    pub fn raftlog_must_rewrite_rewrite_groups(log: *mut raftlog, group: *mut u64, budget: u64) -> c_int;
     pub fn raftlog_must_rewrite_rewrite_queue(log: *mut raftlog, count: *mut u64) -> c_int;
     pub fn raftlog_must_purge_all_stale(log: *mut raftlog, count: *mut u64) -> c_int;
     pub fn raftlog_purge_expired_files(log: *mut raftlog, groups: *mut raftlog_bytes) -> c_int;

@@ -45,6 +45,10 @@ fn exercise(log: &Engine) {
     while let Some(group) = next {
         next = log.must_rewrite_append_groups(watermark, group, 0).unwrap().1;
     }
+    let mut next = log.must_rewrite_rewrite_groups(0, 0).unwrap();
+    while let Some(group) = next {
+        next = log.must_rewrite_rewrite_groups(group, 0).unwrap();
+    }
     log.must_rewrite_append_queue().unwrap();
     log.must_rewrite_rewrite_queue().unwrap();
     assert_eq!(log.last_index(7).unwrap(), Some(14));

@@ -202,6 +202,25 @@ pub extern "C" fn raft_c_must_rewrite_append_groups(
     );
 }
 
+/// Writes what groups have in the log files of the Rewrite queue to new ones, in several calls: of the
+/// known groups from one on as many as have `budget` bytes in that queue, but one at least. Behind the
+/// last one it drops the old files. The first number is the group from which a next call goes on, 0
+/// where none is left.
+#[unsafe(no_mangle)]
+pub extern "C" fn raft_c_must_rewrite_rewrite_groups(
+    alloc: Global,
+    handle: &mut Handle,
+    from: u64,
+    budget: u64,
+)
+    requires { IsSome handle.old.value }
+    ensures some { IsSome handle.new.value }
+    ensures waits { WaitsAfter (Change.RewriteRewriteGroups from budget)
+        handle.old.value handle.new.value }
+{
+    change(alloc, handle, Change::RewriteRewriteGroups(from, budget));
+}
+
 /// Writes what stands in the log files of the Rewrite queue to a new one, and drops them. The first
 /// number is how many they were.
 #[unsafe(no_mangle)]

@@ -9,7 +9,7 @@ use Rattle.raft_log_engine.specs.declared.engine.Engine.{Engine}
 use Rattle.raft_c_log.specs.Calls.{ComesTo, IsBatchCall, IsCall, IsCalled, IsKeptOff}
 use Rattle.raft_c_log.specs.declared.answer.Answer.{Answer}
 use Rattle.raft_c_log.specs.declared.calls.Change.{Change}
-use Rattle.raft_c_log.specs.declared.calls.Change.TheVariants.{Write, WriteOnce, Sync, CompactTo, RewriteAppendQueue, RewriteAppendGroups, RewriteRewriteQueue, PurgeAllStale, PurgeExpired}
+use Rattle.raft_c_log.specs.declared.calls.Change.TheVariants.{Write, WriteOnce, Sync, CompactTo, RewriteAppendQueue, RewriteAppendGroups, RewriteRewriteQueue, RewriteRewriteGroups, PurgeAllStale, PurgeExpired}
 
 -- without a last entry there is no first one
 pub no_last : (entries : List Entry) → last_index_of entries ≡ None → first_index_of entries ≡ None
@@ -52,6 +52,7 @@ module _ {F H R W : Type 0} {g : Ghosts F H R W} (old new : Engine F H R W g) wh
   refused_any RewriteAppendQueue e a b call = untold call
   refused_any (RewriteAppendGroups watermark from budget) e a b call = untold call
   refused_any RewriteRewriteQueue e a b call = untold call
+  refused_any (RewriteRewriteGroups from budget) e a b call = untold call
   refused_any PurgeAllStale e a b call = untold call
   refused_any (PurgeExpired barrier) e a b (inl call) = inl (untold call)
   refused_any (PurgeExpired barrier) e a b (inr call) = inr call

@@ -37,7 +37,7 @@ use Rattle.raft_c_log.specs.Joined.{AreAnswered, Asked, GoesOn, IsAnswered, Lead
 use Rattle.raft_c_log.specs.Outcomes.{HasEnded, IsReply, code_of}
 use Rattle.raft_c_log.specs.declared.answer.Answer.{Answer}
 use Rattle.raft_c_log.specs.declared.calls.Change.{Change}
-use Rattle.raft_c_log.specs.declared.calls.Change.TheVariants.{Write, WriteOnce, Sync, CompactTo, RewriteAppendQueue, RewriteAppendGroups, RewriteRewriteQueue, PurgeAllStale, PurgeExpired}
+use Rattle.raft_c_log.specs.declared.calls.Change.TheVariants.{Write, WriteOnce, Sync, CompactTo, RewriteAppendQueue, RewriteAppendGroups, RewriteRewriteQueue, RewriteRewriteGroups, PurgeAllStale, PurgeExpired}
 use Rattle.raft_c_log.proofs.CodeLemmas.{fault_code_some}
 
 -- What a call does by its progress.
@@ -197,6 +197,7 @@ module _ {F H R W : Type 0} {g : Ghosts F H R W} where
   goes_called RewriteAppendQueue outcome old new answer call = goes_purge call.clause.log call.clause.unchanged
   goes_called (RewriteAppendGroups watermark from budget) outcome old new answer call = goes_purge call.clause.log call.clause.unchanged
   goes_called RewriteRewriteQueue outcome old new answer call = goes_purge call.clause.log call.clause.unchanged
+  goes_called (RewriteRewriteGroups from budget) outcome old new answer call = goes_purge call.clause.log call.clause.unchanged
   goes_called PurgeAllStale outcome old new answer call = goes_purge call.clause.log call.clause.unchanged
   goes_called (PurgeExpired barrier) outcome old new answer (inl call) = goes_purge call.clause.log call.clause.unchanged
   goes_called (PurgeExpired barrier) outcome old new answer (inr untold) = goes_purge untold.1.1.log untold.1.1.unchanged
@@ -245,6 +246,7 @@ module _ {F H R W : Type 0} {g : Ghosts F H R W} where
   within_called RewriteAppendQueue outcome old new answer call = within_any [] old new call.clause.log.any_moment
   within_called (RewriteAppendGroups watermark from budget) outcome old new answer call = within_any [] old new call.clause.log.any_moment
   within_called RewriteRewriteQueue outcome old new answer call = within_any [] old new call.clause.log.any_moment
+  within_called (RewriteRewriteGroups from budget) outcome old new answer call = within_any [] old new call.clause.log.any_moment
   within_called PurgeAllStale outcome old new answer call = within_any [] old new call.clause.log.any_moment
   within_called (PurgeExpired barrier) outcome old new answer (inl call) = within_any [] old new call.clause.log.any_moment
   within_called (PurgeExpired barrier) outcome old new answer (inr untold) = within_any [] old new untold.1.1.log.any_moment
@@ -284,6 +286,7 @@ module _ {F H R W : Type 0} {g : Ghosts F H R W} where
   covered_call RewriteAppendQueue done old new answer asks call = covered_purge (answered call).1.log
   covered_call (RewriteAppendGroups watermark from budget) done old new answer asks call = covered_purge (answered call).1.log
   covered_call RewriteRewriteQueue done old new answer asks call = covered_purge (answered call).1.log
+  covered_call (RewriteRewriteGroups from budget) done old new answer asks call = covered_purge (answered call).1.log
   covered_call PurgeAllStale done old new answer asks call = covered_purge (answered call).1.log
   covered_call (PurgeExpired barrier) done old new answer asks (inl call) = covered_purge (answered call).1.log
   covered_call (PurgeExpired barrier) done old new answer asks (inr untold) = absurd (let clash = untold.0 in cc)

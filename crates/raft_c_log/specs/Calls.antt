@@ -20,12 +20,12 @@ use Rattle.raft_log_engine.specs.PurgeCalls.{IsAppendRewrite, IsExpiry, IsRewrit
 use Rattle.raft_log_engine.specs.Reads.{IsFetchable, IsGroupList, entries_to_fetch, entry_of}
 use Rattle.raft_log_engine.specs.Scan.{IsScan}
 use Rattle.raft_log_engine.specs.declared.engine.Engine.{Engine}
-use Rattle.raft_c_log.specs.Groups.{IsGroupsRewrite}
+use Rattle.raft_c_log.specs.Groups.{IsGroupsRenewal, IsGroupsRewrite}
 use Rattle.raft_c_log.specs.Limit.{limited, max_of}
 use Rattle.raft_c_log.specs.Refusals.{IsBytesRefusal}
 use Rattle.raft_c_log.specs.declared.answer.Answer.{Answer}
 use Rattle.raft_c_log.specs.declared.calls.Change.{Change}
-use Rattle.raft_c_log.specs.declared.calls.Change.TheVariants.{Write, WriteOnce, Sync, CompactTo, RewriteAppendQueue, RewriteAppendGroups, RewriteRewriteQueue, PurgeAllStale, PurgeExpired}
+use Rattle.raft_c_log.specs.declared.calls.Change.TheVariants.{Write, WriteOnce, Sync, CompactTo, RewriteAppendQueue, RewriteAppendGroups, RewriteRewriteQueue, RewriteRewriteGroups, PurgeAllStale, PurgeExpired}
 use Rattle.raft_c_log.specs.declared.calls.Fetch.{Fetch}
 use Rattle.raft_c_log.specs.declared.calls.Query.{Query}
 use Rattle.raft_c_log.specs.declared.calls.Query.TheVariants as query
@@ -118,6 +118,8 @@ module _ {F H R W : Type 0} {g : Ghosts F H R W} where
       (λ next. answer.numbers ≡ (unwrap_or next 0, min watermark (last_seq (queue_of old)))) outcome
   IsCalled RewriteRewriteQueue outcome old new answer =
       IsCall (IsRewriteRewrite old new) (λ count. answer.numbers.0 ≡ count) outcome
+  IsCalled (RewriteRewriteGroups from budget) outcome old new answer =
+      IsCall (IsGroupsRenewal from budget old new) (λ next. answer.numbers.0 ≡ unwrap_or next 0) outcome
   IsCalled PurgeAllStale outcome old new answer =
       IsCall (IsStalePurge old new) (λ count. answer.numbers.0 ≡ count) outcome
   IsCalled (PurgeExpired barrier) outcome old new answer =

@@ -14,7 +14,7 @@ use Rattle.raft_c_batch.specs.Batch.{read_batch}
 use Rattle.raft_c_log.specs.Outcomes.{HasEnded, IsReply}
 use Rattle.raft_c_log.specs.declared.answer.Answer.{Answer}
 use Rattle.raft_c_log.specs.declared.calls.Change.{Change}
-use Rattle.raft_c_log.specs.declared.calls.Change.TheVariants.{Write, WriteOnce, Sync, CompactTo, RewriteAppendQueue, RewriteAppendGroups, RewriteRewriteQueue, PurgeAllStale, PurgeExpired}
+use Rattle.raft_c_log.specs.declared.calls.Change.TheVariants.{Write, WriteOnce, Sync, CompactTo, RewriteAppendQueue, RewriteAppendGroups, RewriteRewriteQueue, RewriteRewriteGroups, PurgeAllStale, PurgeExpired}
 use Rattle.raft_c_log.specs.declared.calls.Query.{Query}
 
 -- a change that makes sure of all where it is done
@@ -26,6 +26,7 @@ is_covering (CompactTo group index) = false
 is_covering RewriteAppendQueue = true
 is_covering (RewriteAppendGroups watermark from budget) = true
 is_covering RewriteRewriteQueue = true
+is_covering (RewriteRewriteGroups from budget) = true
 is_covering PurgeAllStale = true
 is_covering (PurgeExpired barrier) = true
 

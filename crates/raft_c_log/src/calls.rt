@@ -18,6 +18,8 @@ pub enum Change<'a> {
     /// theirs.
     RewriteAppendGroups(u64, u64, u64),
     RewriteRewriteQueue,
+    /// .. of some groups: the first one, and how many bytes of theirs.
+    RewriteRewriteGroups(u64, u64),
     PurgeAllStale,
     /// A purge by the settings' thresholds, which drops no file from this number on.
     PurgeExpired(u64),

@@ -83,7 +83,7 @@ impl<F: FileSystem> OpenLog<F> {
     ghost use Rattle.raft_c_log.specs.Calls.{HasAnswered, IsBatchCall, IsCalled, IsFetchAnswer, IsGroupsAnswer, IsKeptOff, IsScanAnswer, IsSpanAnswer, answered};
     ghost use Rattle.raft_c_log.specs.Outcomes.{HasEnded, IsReply};
     ghost use Rattle.raft_c_log.specs.Refusals.{IsBytesRefusal, IsQueryFault, IsRefusalFor};
-    ghost use Rattle.raft_c_log.specs.declared.calls.Change.TheVariants.{CompactTo, PurgeAllStale, PurgeExpired, RewriteAppendGroups, RewriteAppendQueue, RewriteRewriteQueue};
+    ghost use Rattle.raft_c_log.specs.declared.calls.Change.TheVariants.{CompactTo, PurgeAllStale, PurgeExpired, RewriteAppendGroups, RewriteAppendQueue, RewriteRewriteGroups, RewriteRewriteQueue};
     ghost use Rattle.raft_c_log.specs.declared.calls.Query.TheVariants as query;
 
     /// Carries a change out, and tells a code: 0 where that was done.
@@ -123,6 +123,9 @@ impl<F: FileSystem> OpenLog<F> {
                 self.rewrite_append_groups(watermark, from, budget, answer)
             }
             Change::RewriteRewriteQueue => self.rewrite_rewrite_queue(answer),
+            Change::RewriteRewriteGroups(from, budget) => {
+                self.rewrite_rewrite_groups(from, budget, answer)
+            }
             Change::PurgeAllStale => self.purge_all_stale(answer),
             Change::PurgeExpired(barrier) => self.purge_expired(barrier, answer),
         }
@@ -236,6 +239,24 @@ impl<F: FileSystem> OpenLog<F> {
         {
             Ok(next) => {
                 answer.numbers = (next.unwrap_or(0), watermark.min(last));
+                Ok(())
+            }
+            Err(fault) => Err(fault),
+        }
+    }
+
+    fn rewrite_rewrite_groups(
+        &mut self,
+        from: u64,
+        budget: u64,
+        answer: &mut Answer,
+    ) -> Result<(), Fault>
+        ensures called { IsCalled (RewriteRewriteGroups from budget) result
+            self.old.engine self.new.engine answer.new }
+    {
+        match self.engine.must_rewrite_rewrite_groups(from, budget) {
+            Ok(next) => {
+                answer.numbers = (next.unwrap_or(0), 0);
                 Ok(())
             }
             Err(fault) => Err(fault),

@@ -24,6 +24,7 @@ use Rattle.raft_tables.specs.contracts.memtable.MemTable as table
 use Rattle.raft_tables.specs.contracts.owed.OwedMarks as owed
 use Rattle.raft_tables.specs.contracts.rewritten.GroupsMet as groups
 use Rattle.raft_tables.specs.contracts.stats.GlobalStats as stats
+use Rattle.raft_purge.specs.contracts.renewal_groups.NewFiles as new_files
 use Rattle.raft_purge_rules.specs.contracts.rounds.Rounds as rounds
 use Rattle.raft_log_engine.specs.contracts.engine.Engine as engine
 
@@ -97,7 +98,7 @@ entries_send : IsSend (entries.the_field).row
 entries_send = search (sendable, items.crosses) depth 20
 
 table_parts : AllSend (shape table.the_type).fields
-table_parts = (entries_send, (search (sendable, items.crosses, maps.crosses) depth 20, tt))
+table_parts = (entries_send, (search (sendable, items.crosses, maps.crosses) depth 20, (search (sendable, items.crosses) depth 20, tt)))
 
 table_send : IsSend table.the_row
 table_send = recorded_send _ _ _ (table.the_type).to_one (struct_send (shape table.the_type) table_parts)
@@ -122,6 +123,9 @@ stats_send = search (sendable, items.crosses) depth 20
 
 groups_send : IsSend (groups.the_field).row
 groups_send = search (sendable, items.crosses) depth 20
+
+new_files_send : IsSend (new_files.the_field).row
+new_files_send = search (sendable, items.crosses, groups_send) depth 20
 
 rounds_parts : AllSend (shape rounds.the_type).fields
 rounds_parts = (search (sendable, items.crosses) depth 20, (search (sendable, items.crosses, maps.crosses) depth 20, tt))
@@ -149,7 +153,7 @@ module _ (F H R W : RattleType) (g : Ghosts F.Denot H.Denot R.Denot W.Denot) whe
   pipes_send w = view_send (pipes.TheInside.the_row F H R W g) _ _ _ _ (recorded_send _ _ _ (pipes.TheInside.the_type F H R W g).to_one (struct_send (shape (pipes.TheInside.the_type F H R W g)) (pipes_parts w)))
 
   pub engine_parts : IsSend F → IsSend W → AllSend (shape (engine.the_type F H R W g)).fields
-  engine_parts f w = (search (sendable, items.crosses) depth 20, (config_field_send, (f, (pipes_send w, (tables_field_send, (stats_send, (owed_send, (groups_send, (rounds_send, (search sendable, (cache_field_send, (search (sendable, items.crosses, item_send) depth 20, (search sendable, (search (sendable, history_send, batch_send) depth 20, (search (sendable, history_send, batch_send) depth 20, (search (sendable, history_send) depth 20, tt))))))))))))))))
+  engine_parts f w = (search (sendable, items.crosses) depth 20, (config_field_send, (f, (pipes_send w, (tables_field_send, (stats_send, (owed_send, (groups_send, (rounds_send, (search (sendable, items.crosses, new_files_send) depth 20, (search sendable, (cache_field_send, (search (sendable, items.crosses, item_send) depth 20, (search sendable, (search (sendable, history_send, batch_send) depth 20, (search (sendable, history_send, batch_send) depth 20, (search (sendable, history_send) depth 20, tt)))))))))))))))))
 
   pub engine_send : IsSend F → IsSend W → IsSend (engine.the_row F H R W g)
   engine_send f w = recorded_send _ _ _ (engine.the_type F H R W g).to_one (struct_send (shape (engine.the_type F H R W g)) (engine_parts f w))

@@ -34,6 +34,7 @@ pub mod AttemptLemmas
 pub mod EventLemmas
 pub mod ExpiredLemmas
 pub mod AppendGroupsLemmas
+pub mod RewriteGroupsLemmas
 pub mod Crossing
 pub mod PurgeEventLemmas
 pub mod PurgeCallLemmas

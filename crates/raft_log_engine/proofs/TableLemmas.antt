@@ -46,7 +46,7 @@ has_blocks_over d n given named = λ queue. both_have_blocks d queue (named queu
 
 -- memory took the items of a record that stands at this handle
 pub takes_items : (items : Batch) (handle given : FileBlockHandle) (placed : List PlacedItem) (p p' : PipeState) (m : Memory) (t : Tables) (stats : GlobalStats) → (items ≡ [] → ⊥) → given ≡ handle → handle.id ≡ last_file p → WritesSameFile p p' → placed ≡ places_at handle items
-    → t ≡ tables_after given.id m.tables placed → stats ≡ stats_after given.id m.tables placed m.stats → TakesItems items (last_file p') m (record { tables = t; stats = stats; groups = m.groups; rounds = m.rounds })
+    → t ≡ tables_after given.id m.tables placed → stats ≡ stats_after given.id m.tables placed m.stats → TakesItems items (last_file p') m (record { tables = t; stats = stats; groups = m.groups; rounds = m.rounds; renewal = m.renewal })
 takes_items [] handle given placed p p' m t stats some is in_file same are tables counts = absurd (some refl)
 takes_items (item ∷ items) handle given placed p p' m t stats some is in_file same are tables counts = (
   handle,
@@ -56,6 +56,7 @@ takes_items (item ∷ items) handle given placed p p' m t stats some is in_file 
     stats = (counts ∙ ap (λ (h : FileBlockHandle). stats_after h.id m.tables placed m.stats) is ∙ ap (λ (xs : List PlacedItem). stats_after handle.id m.tables xs m.stats) are) i;
     groups = m.groups;
     rounds = m.rounds;
+    renewal = m.renewal;
   },
 )
   where

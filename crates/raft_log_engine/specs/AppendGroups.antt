@@ -14,6 +14,7 @@ use Rattle.raft_rewrite.specs.Emptied.{MovesOnly}
 use Rattle.raft_stale.specs.Scope.{HasLostFront}
 use Rattle.raft_tables.specs.Tables.{Tables, or_empty, tables_of}
 use Rattle.raft_log_engine.specs.Engine.{queue_of, rewrite_queue_of}
+use Rattle.raft_log_engine.specs.Purge.{LeavesNewFiles}
 use Rattle.raft_log_engine.specs.declared.engine.Engine.{Engine}
 
 -- of the groups from this one on and before the next one, which is a known one, nothing stands in the
@@ -38,10 +39,12 @@ module _ {F H R W : Type 0} {g : Ghosts F H R W} where
     pub fits : IfOk result (λ next. (x : NextGroups) × (x.next ≡ next)
         × IsStrictlySortedBy nat_cmp x.groups.items
         × AreNextGroups from (tables_of old.tables) x
-        × FitBudget budget (min watermark (last_seq (queue_of old))) old.tables x)
+        × FitBudget budget (Some (min watermark (last_seq (queue_of old)))) old.tables x)
     pub rotated : OnOk result (HasRotatedAt (min watermark (last_seq (queue_of old)))
         (queue_of old) (queue_of new))
     pub append : OnOk result ((queue_of new).first ≡ (queue_of old).first)
     pub rewrite : OnOk result ((rewrite_queue_of new).first ≡ (rewrite_queue_of old).first)
     pub lost : OnErr result (HasLostFront None new.tables (queue_of old) (queue_of new))
     pub rounds : new.rounds ≡ old.rounds
+    -- short calls of the Rewrite queue that were under way end with it
+    pub renewal : LeavesNewFiles result None old.renewal new.renewal

@@ -17,6 +17,7 @@ pub mod Opening
 pub mod Purge
 pub mod PurgeCalls
 pub mod Recovery
+pub mod RewriteGroups
 pub mod Write
 pub mod Image
 pub mod Hidden

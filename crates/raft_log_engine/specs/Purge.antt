@@ -1,5 +1,5 @@
 -- What purges leave of the queues, and why they fail.
-use Rattle.std.specs.Prelude.{◌≡◌, ◌⊎◌, ◌^◌, ℕ, max, suc, ◌+◌, Bool, true, false, Some, None}
+use Rattle.std.specs.Prelude.{◌≡◌, ◌⊎◌, ◌^◌, ℕ, max, suc, ◌+◌, Bool, true, false, MatchResult, Option, Result, Some, None}
 use Rattle.raft_base.specs.declared.errors.Fault.{Fault}
 use Rattle.raft_base.specs.declared.errors.Fault.TheVariants as fault
 use Rattle.raft_base.specs.declared.pipe_log.LogQueue.{LogQueue}
@@ -8,6 +8,7 @@ use Rattle.raft_config.specs.Folders.{Folders}
 use Rattle.raft_env.specs.Directory.{Directory}
 use Rattle.raft_env.specs.declared.env.FileSystem.{Ghosts}
 use Rattle.raft_env.specs.Refusal.{FailsAt, Refusals, RoseBy}
+use Rattle.raft_index_laws.specs.DroppingOld.{AreRewrittenFrom}
 use Rattle.raft_pipes.specs.PipeState.{HasLastNumber, PipeState, last_seq}
 use Rattle.raft_pipes.specs.Queue.{NamesLog}
 use Rattle.raft_queues.specs.Dual.{DualState}
@@ -16,6 +17,7 @@ use Rattle.raft_tables.specs.FirstFiles.{first_of_tables}
 use Rattle.raft_tables.specs.GroupIds.{ids_bound}
 use Rattle.raft_tables.specs.declared.memtables.MemTables.{MemTables}
 use Rattle.raft_tables.specs.declared.rewritten.GroupsMet.{GroupsMet}
+use Rattle.raft_crash_laws.specs.Log.{KnownGroups}
 use Rattle.raft_rewrite.specs.Apart.{KeepsOthers}
 use Rattle.raft_stale.specs.Dropping.{HasDroppedOld, HasDroppedSome}
 use Rattle.raft_purge.specs.Expired.{HasDroppedExpired, IsIdle, MovesDue}
@@ -23,6 +25,9 @@ use Rattle.raft_purge_steps.specs.Faults.{HaveOwedNoRecord, IsByChange, IsPurgeR
 use Rattle.raft_rewrite.specs.OpenGroup.{EndsOpen, HasNoId, IsAtomicRefusal}
 use Rattle.raft_rewrite.specs.Emptied.{MovesOnly}
 use Rattle.raft_purge.specs.Groups.{HasEmptiedGroups}
+use Rattle.raft_purge.specs.RenewalPart.{AreRenewed, MayGoOnWith, files_behind as files_behind_part, files_new, first_kept, first_new}
+use Rattle.raft_purge.specs.declared.renewal_groups.NewFiles.{NewFiles}
+use Rattle.raft_purge.specs.declared.renewal_groups.RenewalPart.{RenewalPart}
 use Rattle.raft_purge.specs.Scope.{HasEmptied, HasRewritten, watermark_in}
 use Rattle.raft_stale.specs.Scope.{HasLostFront}
 use Rattle.raft_tables.specs.OwedMarks.{owed_of}
@@ -33,7 +38,7 @@ use Rattle.raft_purge_steps.specs.declared.fault.StepFault.{StepFault}
 use Rattle.raft_log_engine.specs.Engine.{directory_of}
 use Rattle.raft_log_engine.specs.declared.engine.Engine.{Engine}
 use Rattle.raft_log_engine.specs.declared.engine.purge_kind.Purge.{Purge}
-use Rattle.raft_log_engine.specs.declared.engine.purge_kind.Purge.TheVariants.{RewriteAppend, RewriteGroups, RewriteRewrite, DropStale, DropExpired}
+use Rattle.raft_log_engine.specs.declared.engine.purge_kind.Purge.TheVariants.{RewriteAppend, RewriteGroups, RewriteRewrite, RenewGroups, DropStale, DropExpired}
 
 -- so many files left the queue of which a purge answers
 abbrev pub HasFreed : Purge → PipeState → PipeState → PipeState → PipeState → ℕ → Type 0
@@ -43,6 +48,8 @@ HasFreed (RewriteGroups x) append rewrite append' rewrite' count =
     append.first + count ≡ append'.first
 HasFreed RewriteRewrite append rewrite append' rewrite' count =
     rewrite.first + count ≡ rewrite'.first
+HasFreed (RenewGroups x) append rewrite append' rewrite' count =
+    rewrite.first + count ≡ rewrite'.first
 HasFreed DropStale append rewrite append' rewrite' count = append.first + count ≡ append'.first
 HasFreed (DropExpired x) append rewrite append' rewrite' count = append.first + count ≡ append'.first
 
@@ -51,6 +58,7 @@ abbrev pub rests_of : Purge → ℕ
 rests_of (RewriteAppend scope) = 1
 rests_of (RewriteGroups x) = 1
 rests_of RewriteRewrite = 1
+rests_of (RenewGroups x) = 1
 rests_of DropStale = 0
 rests_of (DropExpired x) = 2
 
@@ -68,6 +76,17 @@ pub record HasDroppedStale (together : Bool) (m : MemTables) (append rewrite app
       ≡ max append.first (first_of_tables Append (suc (last_seq append)) m)
   pub old : HasDroppedOld together m rewrite rewrite'
 
+-- of these groups, and of those of which nothing stood there, nothing stands in the Rewrite queue's files
+-- before the first new one; behind the last ones the old files go, if they may, and none before
+pub record HasRenewedGroups (x : RenewalPart) (together : Bool) (m m' : MemTables) (p p' : PipeState)
+    : Type 0 where
+  pub emptied : AreRenewed (first_new x.files p) x (tables_of m) (tables_of m')
+  pub kept : x.is_last ≡ false → p'.first ≡ p.first
+  pub dropped : x.is_last ≡ true → p'.first ≡ first_kept (first_new x.files p) together m' p
+  pub gone :
+      x.is_last ≡ true → together ≡ true → AreRewrittenFrom (first_new x.files p) (tables_of m')
+      → p'.first ≡ first_new x.files p
+
 -- what a purge leaves of both queues, by the tables before and after it
 abbrev pub HasPurged : Purge → Bool → MemTables → MemTables → PipeState → PipeState → PipeState
     → PipeState → Type 0
@@ -77,6 +96,8 @@ HasPurged (RewriteGroups x) together m m' append rewrite append' rewrite' =
     HasEmptiedGroups x (tables_of m) (tables_of m') append rewrite append' rewrite'
 HasPurged RewriteRewrite together m m' append rewrite append' rewrite' =
     HasRenewed together rewrite rewrite' × (append' ≡ append)
+HasPurged (RenewGroups x) together m m' append rewrite append' rewrite' =
+    HasRenewedGroups x together m m' rewrite rewrite' × (append' ≡ append)
 HasPurged DropStale together m m' append rewrite append' rewrite' =
     HasDroppedStale together m append rewrite append' rewrite'
 HasPurged (DropExpired x) together m m' append rewrite append' rewrite' =
@@ -85,6 +106,7 @@ HasPurged (DropExpired x) together m m' append rewrite append' rewrite' =
 -- the queue of which a purge answers
 abbrev pub queue_freed : Purge → LogQueue
 queue_freed RewriteRewrite = Rewrite
+queue_freed (RenewGroups x) = Rewrite
 queue_freed _ = Append
 
 -- where the queue of which a purge answers begins once that was refused
@@ -93,6 +115,8 @@ HasLostSome (RewriteAppend scope) m append rewrite append' rewrite' = HasLostFro
 HasLostSome (RewriteGroups x) m append rewrite append' rewrite' = HasLostFront None m append append'
 HasLostSome RewriteRewrite m append rewrite append' rewrite' =
     HasDroppedSome (suc (last_seq rewrite)) m rewrite rewrite'
+HasLostSome (RenewGroups x) m append rewrite append' rewrite' =
+    HasDroppedSome (first_new x.files rewrite) m rewrite rewrite'
 HasLostSome DropStale m append rewrite append' rewrite' = HasLostFront None m append append'
 HasLostSome (DropExpired x) m append rewrite append' rewrite' =
     HasLostFront (Some x.barrier) m append append'
@@ -115,31 +139,58 @@ LeavesBehind (RewriteAppend scope) append t t' =
     MovesOnly (Some (watermark_in scope (last_seq append))) t t'
 LeavesBehind (RewriteGroups x) append t t' = MovesOnly (Some x.watermark) t t'
 LeavesBehind RewriteRewrite append t t' = MovesOnly None t t'
+LeavesBehind (RenewGroups x) append t t' = MovesOnly None t t'
 LeavesBehind (DropExpired x) append t t' = MovesDue x.renews x.watermark t t'
 LeavesBehind _ append t t' = Unit {0}
 
 -- only the Rewrite queue is rewritten: it counts anew what left it
 abbrev pub RewritesOnlyRewrite : Purge → Type 0
 RewritesOnlyRewrite RewriteRewrite = Unit {0}
+RewritesOnlyRewrite (RenewGroups x) = x.is_last ≡ true
 RewritesOnlyRewrite (DropExpired x) = (x.renews ≡ true) × (x.watermark ≡ None)
 RewritesOnlyRewrite _ = ⊥
 
 -- a rewriting of the Rewrite queue may leave an atomic group there that isn't ended, no other purge
 abbrev pub MayLeaveOpen : Purge → DualState → Directory → Type 0
 MayLeaveOpen RewriteRewrite d n = EndsOpen d n
+MayLeaveOpen (RenewGroups x) d n = EndsOpen d n
 MayLeaveOpen (DropExpired x) d n = EndsOpen d n
 MayLeaveOpen _ d n = ⊥
 
 -- it alone may need an id for an atomic group where none is left
 abbrev pub MayLackId : Purge → GroupsMet → Type 0
 MayLackId RewriteRewrite groups = ids_bound groups.ids ≡ 2 ^ 64
+MayLackId (RenewGroups x) groups = ids_bound groups.ids ≡ 2 ^ 64
 MayLackId (DropExpired x) groups = ids_bound groups.ids ≡ 2 ^ 64
 MayLackId _ groups = ⊥
+
+-- short calls of the Rewrite queue go on with these new files of it, if there are some
+abbrev pub GoesOnFrom : Purge → Option NewFiles → Type 0
+GoesOnFrom (RenewGroups x) files = x.files ≡ files
+GoesOnFrom _ files = Unit {0}
+
+-- .. which stand then as they have to
+abbrev pub GoesOnIf : Purge → DualState → Tables → KnownGroups → Directory → Type 0
+GoesOnIf (RenewGroups x) d t met n = MayGoOnWith x.files d t met n
+GoesOnIf _ d t met n = Unit {0}
+
+-- the new files behind a purge, where short calls begin with these: none behind any other purge
+abbrev pub files_behind : Purge → NewFiles → Option NewFiles
+files_behind (RenewGroups x) next = files_behind_part x next
+files_behind _ next = None
+
+-- a purge that is answered leaves these new files, and one that is refused those before it or none
+abbrev pub LeavesNewFiles : {T : Type 0} → Result T Fault → Option NewFiles → Option NewFiles
+    → Option NewFiles → Type 0
+LeavesNewFiles result behind old new =
+    MatchResult result (λ x. new ≡ behind) (λ e. (new ≡ None) ⊎ (new ≡ old))
 
 -- why the steps of a purge fail
 abbrev pub IsRunRefusal : Purge → GroupsMet → DualState → DualState → Directory → Refusals → Refusals
     → (Fault → Type 0) → StepFault → Type 0
 IsRunRefusal RewriteRewrite groups d d' n' old new U f =
+    IsAtomicRefusal d d' n' old new (λ e. HasNoId groups e ⊎ U e) f
+IsRunRefusal (RenewGroups x) groups d d' n' old new U f =
     IsAtomicRefusal d d' n' old new (λ e. HasNoId groups e ⊎ U e) f
 IsRunRefusal (DropExpired x) groups d d' n' old new U f =
     IsAtomicRefusal d d' n' old new (λ e. HasNoId groups e ⊎ U e) f
@@ -182,6 +233,10 @@ module _ {F H R W : Type 0} {g : Ghosts F H R W} where
   -- no id is left for an atomic group
   abbrev pub HasLastId : Engine F H R W g → Type 0
   HasLastId e = ids_bound e.groups.ids ≡ 2 ^ 64
+
+  -- the new files of short calls of the Rewrite queue that begin now
+  abbrev pub next_files : Engine F H R W g → NewFiles
+  next_files e = files_new None e.pipes.rewrite e.groups
 
   -- the same of an engine after a purge
   abbrev pub LeavesOpen : Purge → Engine F H R W g → Type 0

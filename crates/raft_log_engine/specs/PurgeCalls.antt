@@ -6,7 +6,7 @@ use Rattle.std.specs.Ordering.{nat_cmp}
 use Rattle.std.specs.declared.alloc.Global.{Global}
 use Rattle.raft_base.specs.declared.errors.Fault.{Fault}
 use Rattle.raft_base.specs.declared.errors.Fault.TheVariants as fault
-use Rattle.raft_base.specs.declared.pipe_log.LogQueue.TheVariants.{Append}
+use Rattle.raft_base.specs.declared.pipe_log.LogQueue.TheVariants.{Append, Rewrite}
 use Rattle.raft_base.specs.declared.pipe_log.LogQueue.{LogQueue}
 use Rattle.raft_env.specs.declared.env.FileSystem.{Ghosts}
 use Rattle.raft_listeners.specs.Heard.{HasHeard, Heard}
@@ -18,11 +18,11 @@ use Rattle.raft_stale.specs.Dropping.{KeepsFront}
 use Rattle.raft_stale.specs.Scope.{HasLostFront}
 use Rattle.raft_log_engine.specs.Advance.{ChangesOnlyItsLog, StaysWithin, state_of}
 use Rattle.raft_log_engine.specs.Durability.{Progresses, StaysFailed, durability_of}
-use Rattle.raft_log_engine.specs.Engine.{contents_of, directory_of, durable_of, folders_of, has_failed, memory_of, queue_of, refusals_of, rewrite_queue_of, has_groups_together, spans_of, unsynced_of}
+use Rattle.raft_log_engine.specs.Engine.{contents_of, directory_of, durable_of, folders_of, has_failed, queue_of, refusals_of, rewrite_queue_of, has_groups_together, spans_of, unsynced_of}
 use Rattle.raft_log_engine.specs.Events.{AreRecordsCut, HearsPurge}
 use Rattle.raft_log_engine.specs.Expired.{AsksBarrier, HasPurgedExpired}
 use Rattle.raft_log_engine.specs.Need.{needs_of}
-use Rattle.raft_log_engine.specs.Purge.{HasFreed, HasLastId, HasLostSome, HasOpenGroup, HasPurged, IsFailureCause, IsIdlePurge, IsPurgeFault, LacksId, LeavesBehind, LeavesOpen, LeavesOthers, OwesTooMuch, RewritesOnlyRewrite, queue_freed}
+use Rattle.raft_log_engine.specs.Purge.{HasFreed, HasLastId, HasLostSome, HasOpenGroup, HasPurged, IsFailureCause, IsIdlePurge, IsPurgeFault, LacksId, LeavesBehind, LeavesNewFiles, LeavesOpen, LeavesOthers, OwesTooMuch, RewritesOnlyRewrite, files_behind, next_files, queue_freed}
 use Rattle.raft_log_engine.specs.declared.engine.Engine.{Engine}
 use Rattle.raft_log_engine.specs.declared.engine.purge_kind.Purge.{Purge}
 use Rattle.raft_log_engine.specs.declared.engine.purge_kind.Purge.TheVariants.{DropStale, RewriteAppend, RewriteRewrite}
@@ -58,16 +58,21 @@ module _ {F H R W : Type 0} {g : Ghosts F H R W} where
         (queue_of old) (rewrite_queue_of old) (queue_of new) (rewrite_queue_of new))
     pub first : OnErr result (HasLostSome purge new.tables
         (queue_of old) (rewrite_queue_of old) (queue_of new) (rewrite_queue_of new))
-    pub append : purge ≡ RewriteRewrite → queue_of new ≡ queue_of old
+    pub append : queue_freed purge ≡ Rewrite → queue_of new ≡ queue_of old
     pub tables : OnOk result
         (LeavesBehind purge (queue_of old) (tables_of old.tables) (tables_of new.tables))
     pub apart : OnOk result (LeavesOthers purge (tables_of old.tables) (tables_of new.tables))
     pub idle : OnOk result (IsIdlePurge purge → (new.pipes ≡ old.pipes)
         × (new.tables ≡ old.tables) × (new.stats ≡ old.stats) × (new.groups ≡ old.groups))
     pub rounds : new.rounds ≡ old.rounds
+    -- short calls that were under way end with it, unless it is the next one of them, or refused
+    pub renewal :
+        LeavesNewFiles result (files_behind purge (next_files old)) old.renewal new.renewal
     -- a rewriting of the Rewrite queue counts anew, and a drop of stale files moves and counts nothing
     pub counted : RewritesOnlyRewrite purge → OnOk result (deleted_count new.stats ≡ 0)
-    pub stale : purge ≡ DropStale → memory_of new ≡ memory_of old
+    pub stale :
+        purge ≡ DropStale
+        → (new.tables ≡ old.tables) × (new.stats ≡ old.stats) × (new.groups ≡ old.groups)
 
   -- one of the `must_` purges
   pub record IsPurge (purge : Purge) (old new : Engine F H R W g) (result : Result ℕ Fault)
@@ -95,6 +100,8 @@ module _ {F H R W : Type 0} {g : Ghosts F H R W} where
     pub value : IfOk result (λ asked. HasPurgedExpired barrier old new asked.items)
     pub ascending : IfOk result (λ asked. IsStrictlySortedBy nat_cmp asked.items)
     pub rounds : OnErr result (new.rounds ≡ old.rounds)
+    -- short calls that were under way end with it
+    pub renewal : LeavesNewFiles result None old.renewal new.renewal
     pub first : OnErr result (HasLostFront (Some barrier) new.tables (queue_of old) (queue_of new))
     -- what stands in the Rewrite queue moves where that was due, then what stands up to the watermark of
     -- the Append queue where that was; where only the Rewrite queue was, it counts anew what left it

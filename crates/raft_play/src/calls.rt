@@ -23,6 +23,7 @@ pub(crate) enum Call {
     RewriteAppend(Option<u64>, Option<u64>),
     /// Of the Append queue's files up to one, what the groups from one on have there, within a budget.
     RewriteGroups(FileSeq, u64, u64),
+    RenewGroups(u64, u64),
     RewriteRewrite,
     PurgeStale,
     Purge,
@@ -66,6 +67,7 @@ pub(crate) fn call_of(
             number(from)?,
             number(budget)?,
         ),
+        ["rewrite", "rewrite", from, budget] => Call::RenewGroups(number(from)?, number(budget)?),
         ["rewrite", "rewrite"] => Call::RewriteRewrite,
         ["rewrite", "stale"] => Call::PurgeStale,
         ["purge"] => Call::Purge,
@@ -115,6 +117,12 @@ pub(crate) fn outcome_of<F: FileSystem>(
         }
         Call::RewriteGroups(file, from, budget) => {
             match engine.must_rewrite_append_groups(*file, *from, *budget) {
+                Ok(next) => Outcome::Index(next),
+                Err(fault) => Outcome::Done(Err(fault)),
+            }
+        }
+        Call::RenewGroups(from, budget) => {
+            match engine.must_rewrite_rewrite_groups(*from, *budget) {
                 Ok(next) => Outcome::Index(next),
                 Err(fault) => Outcome::Done(Err(fault)),
             }

@@ -46,8 +46,9 @@ IsExpiredRefusal t owed groups d d' n' old new IsUnfit =
 abbrev pub IsLogBy : {X : Type 0} → (X → LogIndex) → DualState → Directory → LogValue → Type 0
 IsLogBy {X} i d n v = (x : X) × IsLog (log_by d (i x) n) v
 
--- what groups have is written to the Rewrite queue again, and no other file changes. All batches that were
--- written but one are full, and unless the log is in doubt the blocks that are kept are the log's
+-- what groups have is written to the Rewrite queue again, and the Append queue's pipe is the same. All
+-- batches that were written but one are full, and unless the log is in doubt the blocks that are kept are
+-- the log's
 pub record RewritesGroups {T L : Type 0} {g : Ghosts L} (result : Result T StepFault)
     (d d' : DualState) (n' : Directory) (kept' : KeptBlocks) (events events' : PurgeEvents L g)
     : Type 0 where

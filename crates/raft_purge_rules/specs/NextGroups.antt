@@ -21,8 +21,8 @@ pub record AreNextGroups (from : ℕ) (t : Tables) (x : NextGroups) : Type 0 whe
   pub some : IfSome x.next (λ g. 0 < length x.groups.items)
 
 -- they have at most so many bytes, or none but the first has any, and with the next one they have more
-pub record FitBudget (budget watermark : ℕ) (m : MemTables) (x : NextGroups) : Type 0 where
-  pub within : (sum_by (bytes_of_group (Some watermark) m) x.groups.items ≤ budget)
-      ⊎ (sum_by (bytes_of_group (Some watermark) m) (drop 1 x.groups.items) ≡ 0)
+pub record FitBudget (budget : ℕ) (watermark : Option ℕ) (m : MemTables) (x : NextGroups) : Type 0 where
+  pub within : (sum_by (bytes_of_group watermark m) x.groups.items ≤ budget)
+      ⊎ (sum_by (bytes_of_group watermark m) (drop 1 x.groups.items) ≡ 0)
   pub full : IfSome x.next (λ g. budget
-      < sum_by (bytes_of_group (Some watermark) m) x.groups.items + bytes_of_group (Some watermark) m g)
+      < sum_by (bytes_of_group watermark m) x.groups.items + bytes_of_group watermark m g)

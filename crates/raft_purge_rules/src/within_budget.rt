@@ -17,12 +17,12 @@ pub struct NextGroups {
 }
 
 /// The known groups from a number on: as many as have `budget` bytes of entries and values in the
-/// Append queue's files up to a watermark together, but one at least.
+/// Append queue's files up to a watermark together, or without one in the Rewrite queue, but one at least.
 pub fn next_groups(
     alloc: Global,
     tables: &MemTables,
     from: u64,
-    watermark: FileSeq,
+    watermark: Option<FileSeq>,
     budget: u64,
 ) -> Result<NextGroups, AllocError>
     ensures value { IfOk result (AreNextGroups from (tables_of tables.now)) }
@@ -36,7 +36,7 @@ pub fn next_groups(
         if *group < from {
             continue;
         }
-        match tables.left_of(*group, left, Some(watermark)) {
+        match tables.left_of(*group, left, watermark) {
             Some(rest) => left = rest,
             None if groups.is_empty() => left = 0,
             None => {

@@ -1,4 +1,4 @@
-use Rattle.std.proofs.Common.{◌≡◌, ◌+◌, ◌<◌, ◌⊎◌, ◌++◌, Some, drop}
+use Rattle.std.proofs.Common.{◌≡◌, ◌+◌, ◌<◌, ◌⊎◌, ◌++◌, drop}
 use Rattle.std.specs.Prelude.{nat_le}
 use Rattle.std.specs.List.{filter, sum_by}
 use Rattle.raft_tables.specs.ToMove.{bytes_of_group}
@@ -9,6 +9,6 @@ use Rattle.raft_purge_rules.proofs.within_budget.next_groups.Given as goal
 abbrev pub invariant-loop-group : goal.invariant-loop-group
 invariant-loop-group l = record {
   groups : l.groups.items ++ filter (nat_le l.from) (drop l.group-index l.group-items) ≡ filter (nat_le l.from) l.group-items;
-  budget : (sum_by (bytes_of_group (Some l.watermark) l.tables) l.groups.items + l.left ≡ l.budget)
-      ⊎ ((l.left ≡ 0) × (sum_by (bytes_of_group (Some l.watermark) l.tables) (drop 1 l.groups.items) ≡ 0) × (l.budget < sum_by (bytes_of_group (Some l.watermark) l.tables) l.groups.items));
+  budget : (sum_by (bytes_of_group l.watermark l.tables) l.groups.items + l.left ≡ l.budget)
+      ⊎ ((l.left ≡ 0) × (sum_by (bytes_of_group l.watermark l.tables) (drop 1 l.groups.items) ≡ 0) × (l.budget < sum_by (bytes_of_group l.watermark l.tables) l.groups.items));
 }

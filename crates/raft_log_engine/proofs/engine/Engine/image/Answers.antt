@@ -6,7 +6,7 @@ use Rattle.raft_tables.specs.Tables.{contents_in, tables_of}
 use Rattle.raft_log_engine.specs.Engine.{has_failed, refusals_of}
 use Rattle.raft_log_engine.specs.Image.{IsImageOf}
 use Rattle.raft_log_engine.proofs.FaultLemmas.{dual_refusal_not_failed, failed_iff}
-use Rattle.raft_log_engine.proofs.HeldLemmas.{blocks_over, cached_over, completed_still, dual_over, files_over, has_over, holds_still, left_still, pipe_refusal, queues_still, stands_for}
+use Rattle.raft_log_engine.proofs.HeldLemmas.{blocks_over, cached_over, completed_still, goes_still, dual_over, files_over, has_over, holds_still, left_still, pipe_refusal, queues_still, stands_for}
 use Rattle.raft_log_engine.proofs.engine.Engine.image.Goals as goal
 
 pub new-reader-requires-clause-holds : goal.new-reader-requires-clause-holds
@@ -31,6 +31,7 @@ invariant_of-self g c =
       cached = λ alive. cached_over old c.new-reader.result pipes files left reads;
       queues = queues_still old n same;
       completed = completed_still old n same;
+      goes = goes_still old n same;
       form = old.form;
       left = left_still old n same;
     }

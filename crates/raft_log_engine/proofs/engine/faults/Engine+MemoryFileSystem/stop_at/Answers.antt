@@ -2,7 +2,7 @@ use Rattle.std.proofs.Common.{subst, sym}
 use Rattle.raft_crash_laws.specs.Contents.{Holds}
 use Rattle.raft_log_engine.specs.Engine.{contents_of, is_known_in}
 use Rattle.raft_entry_blocks.specs.Cache.{HoldsBlockIn}
-use Rattle.raft_log_engine.proofs.HeldLemmas.{completed_still, left_still, queues_still}
+use Rattle.raft_log_engine.proofs.HeldLemmas.{completed_still, goes_still, left_still, queues_still}
 use Rattle.raft_log_engine.proofs.engine.faults.Engine+MemoryFileSystem.stop_at.Goals as goal
 
 -- its files are the same
@@ -16,6 +16,7 @@ invariant_of-self c =
       cached = λ alive. subst (λ n. HoldsBlockIn e.pipes n e.cache) (sym same) (e.cached alive);
       queues = queues_still e _ same;
       completed = completed_still e _ same;
+      goes = goes_still e _ same;
       form = e.form;
       left = left_still e _ same;
     }

@@ -1,4 +1,4 @@
-use Rattle.std.proofs.Common.{◌⊎◌, ◌∙◌, inl, inr, refl, subst, sym, List, ℕ}
+use Rattle.std.proofs.Common.{◌≡◌, ◌⊎◌, ◌∙◌, inl, inr, refl, subst, sym, List, None, Option, Some, ℕ}
 use Rattle.std.specs.List.Sorted.{IsStrictlySortedBy}
 use Rattle.std.specs.Ordering.{nat_cmp}
 use Rattle.raft_rewrite.specs.Apart.{KeepsOthers}
@@ -11,7 +11,7 @@ use Rattle.std.proofs.Math.Logic.{∥∥₁_elim, ∥∥₁_map}
 use Rattle.std.proofs.Props.{props}
 use Rattle.std.proofs.lemmas.Result.{IfErr-weaker, on_ok_weaker}
 use Rattle.raft_purge.proofs.CutLemmas.{none_cut}
-use Rattle.raft_base.specs.declared.pipe_log.LogQueue.TheVariants.{Append}
+use Rattle.raft_base.specs.declared.pipe_log.LogQueue.TheVariants.{Append, Rewrite}
 use Rattle.raft_crash_laws.specs.Log.{KnownGroups, known_groups}
 use Rattle.raft_crash_laws.proofs.LogLemmas.{append_differs}
 use Rattle.raft_rewrite.specs.OpenGroup.{HasNoId}
@@ -23,7 +23,11 @@ use Rattle.raft_tables.specs.Owed.{Owed}
 use Rattle.raft_tables.specs.Tables.{tables_of}
 use Rattle.raft_tables.specs.OwedMarks.{owed_of}
 use Rattle.raft_log_engine.proofs.PurgeFaultLemmas.{atomic_weaker, both_ok, or_unfit, refusal_weaker, stale_files, unfit_where}
-use Rattle.raft_log_engine.proofs.engine.purge_kind.Purge.run.Goals as goal
+use Rattle.raft_purge.specs.declared.renewal_groups.NewFiles.{NewFiles}
+use Rattle.raft_log_engine.specs.Purge.{GoesOnIf}
+use Rattle.raft_log_engine.specs.declared.engine.purge_kind.Purge.{Purge}
+use Rattle.raft_log_engine.proofs.RewriteGroupsLemmas.{going_on, renewed_groups}
+use Rattle.raft_log_engine.proofs.engine.purge_kind.PurgeRun.run.Goals as goal
 
 -- A log of the Append queue is kept whatever is known of atomic groups.
 
@@ -89,13 +93,16 @@ pub returns-in-DropStale-clause-first : goal.returns-in-DropStale-clause-first
 returns-in-DropStale-clause-first g c = rw c.in-DropStale.is (on_err_of c.purge_all_stale.result _ c.purge_all_stale.ensures.purges.first)
 
 pub returns-in-RewriteAppend-clause-append : goal.returns-in-RewriteAppend-clause-append
-returns-in-RewriteAppend-clause-append g c = λ is. absurd (let clash = sym c.in-RewriteAppend.is ∙ is in cc)
+returns-in-RewriteAppend-clause-append g c = rw c.in-RewriteAppend.is (λ is. absurd (let clash : Append ≡ Rewrite = is in cc))
 
 pub returns-in-RewriteRewrite-clause-append : goal.returns-in-RewriteRewrite-clause-append
 returns-in-RewriteRewrite-clause-append g c = λ is. c.rewrite_rewrite_queue.ensures.renews.others Append append_differs
 
 pub returns-in-DropStale-clause-append : goal.returns-in-DropStale-clause-append
-returns-in-DropStale-clause-append g c = λ is. absurd (let clash = sym c.in-DropStale.is ∙ is in cc)
+returns-in-DropStale-clause-append g c = rw c.in-DropStale.is (λ is. absurd (let clash : Append ≡ Rewrite = is in cc))
+
+pub returns-in-DropExpired-clause-append : goal.returns-in-DropExpired-clause-append
+returns-in-DropExpired-clause-append g c = rw c.in-DropExpired.is (λ is. absurd (let clash : Append ≡ Rewrite = is in cc))
 
 -- What it doesn't move.
 
@@ -280,7 +287,7 @@ pub returns-in-RewriteGroups-clause-first : goal.returns-in-RewriteGroups-clause
 returns-in-RewriteGroups-clause-first g c = rw c.in-RewriteGroups.is (on_err_of c.rewrite_append_groups.result _ c.rewrite_append_groups.ensures.first)
 
 pub returns-in-RewriteGroups-clause-append : goal.returns-in-RewriteGroups-clause-append
-returns-in-RewriteGroups-clause-append g c = λ is. absurd (let clash = sym c.in-RewriteGroups.is ∙ is in cc)
+returns-in-RewriteGroups-clause-append g c = rw c.in-RewriteGroups.is (λ is. absurd (let clash : Append ≡ Rewrite = is in cc))
 
 pub returns-in-RewriteGroups-clause-tables : goal.returns-in-RewriteGroups-clause-tables
 returns-in-RewriteGroups-clause-tables g c = rw c.in-RewriteGroups.is c.rewrite_append_groups.ensures.only
@@ -312,3 +319,97 @@ returns-in-RewriteGroups-clause-counted g c = rw c.in-RewriteGroups.is (λ never
 
 pub returns-in-RewriteGroups-clause-stale : goal.returns-in-RewriteGroups-clause-stale
 returns-in-RewriteGroups-clause-stale g c = λ is. absurd (let clash = sym c.in-RewriteGroups.is ∙ is in cc)
+
+-- A rewriting of some groups of the Rewrite queue.
+
+pub rewrite_rewrite_groups-requires-clause-some : goal.rewrite_rewrite_groups-requires-clause-some
+rewrite_rewrite_groups-requires-clause-some g c = λ κs within. ∥∥₁_map c.requires.some (λ x. (owed_of c.args.owed.now, x.0, x.1))
+
+pub rewrite_rewrite_groups-requires-clause-goes : goal.rewrite_rewrite_groups-requires-clause-goes
+rewrite_rewrite_groups-requires-clause-goes g c = λ κs within.
+    subst (λ (p : Purge). GoesOnIf p c.args.pipes.now (tables_of c.args.tables.now) (known_groups c.args.groups.now) (g.F.FileSystem.directory c.args.file_system.now)) c.in-RenewGroups.is c.requires.goes
+
+pub returns-in-RenewGroups-clause-log : goal.returns-in-RenewGroups-clause-log
+returns-in-RenewGroups-clause-log g c = still_at (λ _. owed_of c.args.owed.now) c.rewrite_rewrite_groups.ensures.purges.log
+
+pub returns-in-RenewGroups-clause-value : goal.returns-in-RenewGroups-clause-value
+returns-in-RenewGroups-clause-value g c = rw c.in-RenewGroups.is c.rewrite_rewrite_groups.ensures.purges.value
+
+pub returns-in-RenewGroups-clause-files : goal.returns-in-RenewGroups-clause-files
+returns-in-RenewGroups-clause-files g c =
+    let d = c.args.pipes.now in
+    let d' = c.rewrite_rewrite_groups.new.pipes in
+    let done = c.rewrite_rewrite_groups.ensures in
+    rw c.in-RenewGroups.is (renewed_groups c.rewrite_rewrite_groups.result c.in-RenewGroups.part c.args.groups.now.together c.args.tables.now c.rewrite_rewrite_groups.new.tables d.append d.rewrite d'.append d'.rewrite (done.others Append append_differs) done.emptied done.kept done.dropped done.span)
+
+pub returns-in-RenewGroups-clause-front : goal.returns-in-RenewGroups-clause-front
+returns-in-RenewGroups-clause-front g c = rw c.in-RenewGroups.is c.rewrite_rewrite_groups.ensures.purges.front
+
+pub returns-in-RenewGroups-clause-first : goal.returns-in-RenewGroups-clause-first
+returns-in-RenewGroups-clause-first g c = rw c.in-RenewGroups.is c.rewrite_rewrite_groups.ensures.first
+
+pub returns-in-RenewGroups-clause-others : goal.returns-in-RenewGroups-clause-others
+returns-in-RenewGroups-clause-others g c = rw c.in-RenewGroups.is (if_ok c.rewrite_rewrite_groups.result _ tt)
+
+pub returns-in-RenewGroups-clause-idle : goal.returns-in-RenewGroups-clause-idle
+returns-in-RenewGroups-clause-idle g c = rw c.in-RenewGroups.is (if_ok c.rewrite_rewrite_groups.result _ (λ never. absurd never))
+
+pub returns-in-RenewGroups-clause-cut : goal.returns-in-RenewGroups-clause-cut
+returns-in-RenewGroups-clause-cut g c = rw c.in-RenewGroups.is (on_ok_weaker c.rewrite_rewrite_groups.result (λ cut none. cut 0 (none_cut none)) c.rewrite_rewrite_groups.ensures.purges.cut)
+
+pub returns-in-RenewGroups-clause-append : goal.returns-in-RenewGroups-clause-append
+returns-in-RenewGroups-clause-append g c = λ is. c.rewrite_rewrite_groups.ensures.others Append append_differs
+
+pub returns-in-RenewGroups-clause-tables : goal.returns-in-RenewGroups-clause-tables
+returns-in-RenewGroups-clause-tables g c = rw c.in-RenewGroups.is c.rewrite_rewrite_groups.ensures.only
+
+pub returns-in-RenewGroups-clause-together : goal.returns-in-RenewGroups-clause-together
+returns-in-RenewGroups-clause-together g c = c.rewrite_rewrite_groups.ensures.together
+
+pub returns-in-RenewGroups-clause-counted : goal.returns-in-RenewGroups-clause-counted
+returns-in-RenewGroups-clause-counted g c = rw c.in-RenewGroups.is (λ last. on_ok_weaker c.rewrite_rewrite_groups.result (λ stats. stats last) c.rewrite_rewrite_groups.ensures.stats)
+
+pub returns-in-RenewGroups-clause-stale : goal.returns-in-RenewGroups-clause-stale
+returns-in-RenewGroups-clause-stale g c = λ is. absurd (let clash = sym c.in-RenewGroups.is ∙ is in cc)
+
+pub returns-in-RenewGroups-clause-holds : goal.returns-in-RenewGroups-clause-holds
+returns-in-RenewGroups-clause-holds g c = c.rewrite_rewrite_groups.ensures.purges.holds
+
+pub returns-in-RenewGroups-clause-cause : goal.returns-in-RenewGroups-clause-cause
+returns-in-RenewGroups-clause-cause g c =
+    let d = c.args.pipes.now in
+    let t = tables_of c.args.tables.now in
+    let owed = owed_of c.args.owed.now in
+    let met = known_groups c.args.groups.now in
+    let n = g.F.FileSystem.directory c.args.file_system.now in
+    let Q = IsLog (log_of d t owed met n) in
+    let P : LogValue → Type 0 = λ v. (o : Owed) × IsLog (log_of d t o met n) v in
+    let U : Fault → Type 0 = λ e. HaveOwedNoRecord (tables_of c.rewrite_rewrite_groups.new.tables) owed e ⊎ IsUnfitWhere Q e in
+    let groups = c.rewrite_rewrite_groups.new.groups in
+    let n' = g.F.FileSystem.directory c.rewrite_rewrite_groups.new.file_system in
+    rw c.in-RenewGroups.is (IfErr-weaker c.rewrite_rewrite_groups.result _ _ (atomic_weaker d c.rewrite_rewrite_groups.new.pipes n' (g.F.FileSystem.refusals_of c.args.file_system.now) (g.F.FileSystem.refusals_of c.rewrite_rewrite_groups.new.file_system) (λ e. HasNoId groups e ⊎ IsUnfitWhere P e) (λ e. HasNoId groups e ⊎ U e) (or_unfit (HasNoId groups) (IsUnfitWhere P) U (λ e unfit. inr (unfit_where P Q (λ v held. (owed, held)) e unfit)))) c.rewrite_rewrite_groups.ensures.purges.cause)
+
+-- Which new files of the Rewrite queue stand behind it.
+
+pub returns-in-RenewGroups-clause-goes : goal.returns-in-RenewGroups-clause-goes
+returns-in-RenewGroups-clause-goes g c =
+    let d' = c.rewrite_rewrite_groups.new.pipes in
+    let t' = tables_of c.rewrite_rewrite_groups.new.tables in
+    let met' = known_groups c.rewrite_rewrite_groups.new.groups in
+    let n' = g.F.FileSystem.directory c.rewrite_rewrite_groups.new.file_system in
+    rw c.in-RenewGroups.is (on_ok_weaker c.rewrite_rewrite_groups.result (λ goes. going_on c.in-RenewGroups.part c.args.pipes.now.rewrite c.args.groups.now d' t' met' n' goes) c.rewrite_rewrite_groups.ensures.goes)
+
+pub returns-in-RewriteAppend-clause-goes : goal.returns-in-RewriteAppend-clause-goes
+returns-in-RewriteAppend-clause-goes g c = rw c.in-RewriteAppend.is (if_ok c.rewrite_append_queue.result _ (λ files is. absurd (let clash : ◌≡◌ {A = Option NewFiles} None (Some files) = is in cc)))
+
+pub returns-in-RewriteGroups-clause-goes : goal.returns-in-RewriteGroups-clause-goes
+returns-in-RewriteGroups-clause-goes g c = rw c.in-RewriteGroups.is (if_ok c.rewrite_append_groups.result _ (λ files is. absurd (let clash : ◌≡◌ {A = Option NewFiles} None (Some files) = is in cc)))
+
+pub returns-in-RewriteRewrite-clause-goes : goal.returns-in-RewriteRewrite-clause-goes
+returns-in-RewriteRewrite-clause-goes g c = rw c.in-RewriteRewrite.is (if_ok c.rewrite_rewrite_queue.result _ (λ files is. absurd (let clash : ◌≡◌ {A = Option NewFiles} None (Some files) = is in cc)))
+
+pub returns-in-DropStale-clause-goes : goal.returns-in-DropStale-clause-goes
+returns-in-DropStale-clause-goes g c = rw c.in-DropStale.is (if_ok c.purge_all_stale.result _ (λ files is. absurd (let clash : ◌≡◌ {A = Option NewFiles} None (Some files) = is in cc)))
+
+pub returns-in-DropExpired-clause-goes : goal.returns-in-DropExpired-clause-goes
+returns-in-DropExpired-clause-goes g c = rw c.in-DropExpired.is (if_ok c.purge.result _ (λ files is. absurd (let clash : ◌≡◌ {A = Option NewFiles} None (Some files) = is in cc)))
