@@ -1,4 +1,5 @@
-//! Tests of numbers, batches, records, tables and the rules of purges. Each is one loop over a table of cases.
+//! Tests of numbers, batches, records, tables and the rules of purges, each one loop over a table of cases; and the
+//! smallest cases in which what is recovered changes, each with one premise of a law left out.
 #![tactic(auto)]
 
 #[cfg(test)]
@@ -13,12 +14,16 @@ mod c_parts;
 mod changes;
 #[cfg(test)]
 mod counts;
+pub mod drops;
 #[cfg(test)]
 mod encoded;
 #[cfg(test)]
 mod faults;
 #[cfg(test)]
+mod laws;
+#[cfg(test)]
 mod listeners;
+pub mod marks;
 #[cfg(test)]
 mod numbers;
 #[cfg(test)]
@@ -39,7 +44,9 @@ mod record_rows;
 mod records;
 #[cfg(test)]
 mod refused_rows;
+pub mod rewriting;
 #[cfg(test)]
 mod sizes;
+pub mod syncs;
 #[cfg(test)]
 mod tables;

@@ -63,6 +63,8 @@ enum Step {
     Item(u64, Ask, &'static [Entry], bool),
     /// The group of each item with the item, and whether they fit.
     Check(&'static [(u64, Ask)], Fit),
+    /// The first file in which something stands, and 99 for none.
+    First(u64),
 }
 
 static APPLIED: [Step; 9] = [
@@ -216,6 +218,39 @@ static CHECKS: [Step; 19] = [
     ),
 ];
 
+static FIRST_FILES: [Step; 19] = [
+    Step::First(99),
+    Step::Changes(
+        1,
+        &[Change(1, b"a", Some(b"1")), Change(2, b"a", Some(b"2"))],
+    ),
+    Step::First(1),
+    Step::Changes(
+        2,
+        &[Change(1, b"a", Some(b"3")), Change(1, b"b", Some(b"4"))],
+    ),
+    Step::First(1),
+    Step::Changes(3, &[Change(2, b"a", Some(b"5"))]),
+    Step::First(2),
+    Step::Changes(4, &[Change(1, b"a", Some(b"6")), Change(1, b"b", None)]),
+    Step::First(3),
+    Step::Item(5, Ask::Put(&[1, 2]), &[(1, FILE_5), (2, FILE_5)], true),
+    Step::First(3),
+    Step::Changes(7, &[Change(2, b"a", None), Change(1, b"a", None)]),
+    Step::First(5),
+    Step::Item(
+        8,
+        Ask::Put(&[2, 3]),
+        &[(1, FILE_5), (2, FILE_8), (3, FILE_8)],
+        true,
+    ),
+    Step::First(5),
+    Step::Item(9, Ask::Compact(2), &[(2, FILE_8), (3, FILE_8)], true),
+    Step::First(8),
+    Step::Item(9, Ask::Clean, &[], true),
+    Step::First(99),
+];
+
 // Applies an item of group 1.
 pub(crate) fn apply_one(
     alloc: Global,
@@ -354,6 +389,7 @@ impl Row for Step {
                 leaves(alloc, tables, file(*seq), ask, wanted)? && is_known(tables)? == *known,
             ),
             Step::Check(asked, fit) => Ok(fits(alloc, tables, asked, fit)?),
+            Step::First(wanted) => Ok(tables.first_file(LogQueue::Append, 99) == *wanted),
         }
     }
 }
@@ -383,6 +419,13 @@ fn entries_are_put_and_dropped(rt: HostRuntime) -> Result<(), Fail> {
 fn items_are_checked(rt: HostRuntime) -> Result<(), Fail> {
     let mut tables = MemTables::new(rt.alloc());
     assert_eq!(rt; first_wrong(rt.alloc(), &mut tables, &CHECKS)?, None);
+    Ok(())
+}
+
+#[test]
+fn the_first_file_is_found(rt: HostRuntime) -> Result<(), Fail> {
+    let mut tables = MemTables::new(rt.alloc());
+    assert_eq!(rt; first_wrong(rt.alloc(), &mut tables, &FIRST_FILES)?, None);
     Ok(())
 }
 

@@ -1,17 +1,50 @@
-//! Tests of log files, files in memory and settings. Each is one loop over a table of cases.
+//! Tests of log files, files in memory and in a folder of the operating system, settings, and dumps and checks of log
+//! files. Each is one loop over a table of cases.
 #![tactic(auto)]
 
 #[cfg(test)]
 mod block_sizes;
 #[cfg(test)]
+mod building;
+#[cfg(test)]
+mod calls;
+#[cfg(test)]
+mod checks;
+#[cfg(test)]
+mod dumps;
+#[cfg(test)]
+mod foreign;
+#[cfg(test)]
 mod log_files;
+#[cfg(test)]
+mod losses;
 #[cfg(test)]
 mod memory_files;
 #[cfg(test)]
 mod names;
 #[cfg(test)]
+mod openings;
+#[cfg(test)]
+mod parts;
+#[cfg(test)]
 mod reading;
+#[cfg(test)]
+mod reads;
+#[cfg(test)]
+mod refusals;
+#[cfg(test)]
+mod refused;
+#[cfg(test)]
+mod reserved;
+#[cfg(test)]
+mod searches;
 #[cfg(test)]
 mod settings;
 #[cfg(test)]
 mod settings_text;
+#[cfg(test)]
+mod spellings;
+#[cfg(test)]
+mod stale;
+#[cfg(test)]
+mod views;

@@ -1,0 +1,28 @@
+//! Files that are dropped, or that still stand, though they may not.
+ghost use Rattle.std.specs.Prelude.{◌≡◌, List, [], ◌∷◌};
+ghost use Rattle.raft_base_scenarios.specs.Rows.{after, compact, delete, entries, found, nothing, only, put, value};
+
+/// A front of the Append queue is dropped: with a key that is referred to (`referred`), with
+/// entries that the Rewrite queue doesn't have (`missing`), where it has entries before (`before`)
+/// or after (`later`) those that are recovered, or a key that isn't there (`key`).
+pub fn dropped_fronts_change_what_is_found()
+    ensures referred { (found [] (put 1 ∷ []) ≡ value 1) × (found [] [] ≡ nothing) }
+    ensures missing { (found [] (entries (5 ∷ []) ∷ []) ≡ only (5 ∷ [])) × (found [] [] ≡ nothing) }
+    ensures before { (found (entries (2 ∷ []) ∷ []) (compact 3 ∷ []) ≡ nothing)
+        × (found (entries (2 ∷ []) ∷ []) [] ≡ only (2 ∷ [])) }
+    ensures later { (found (entries (4 ∷ 5 ∷ []) ∷ []) (entries (4 ∷ []) ∷ []) ≡ only (4 ∷ []))
+        × (found (entries (4 ∷ 5 ∷ []) ∷ []) [] ≡ only (4 ∷ 5 ∷ [])) }
+    ensures key { (found (put 1 ∷ []) (delete ∷ []) ≡ nothing)
+        × (found (put 1 ∷ []) [] ≡ value 1) }
+{}
+
+/// An older front that stands while one after it is gone sets what that one replaced (`older`), and
+/// entries that were accepted though they don't fit are found with others (`invalid`).
+pub fn fronts_with_a_hole_change_what_is_found()
+    ensures older { (found (put 2 ∷ []) (put 1 ∷ put 2 ∷ []) ≡ value 2)
+        × (found (put 2 ∷ []) (put 1 ∷ []) ≡ value 1) }
+    ensures invalid { (found (entries (1 ∷ []) ∷ []) (entries (4 ∷ []) ∷ []) ≡ only (4 ∷ []))
+        × (after (entries (4 ∷ []) ∷ entries (2 ∷ []) ∷ []) ≡ only (2 ∷ []))
+        × (found (entries (1 ∷ []) ∷ []) (entries (4 ∷ []) ∷ entries (2 ∷ []) ∷ [])
+        ≡ only (1 ∷ 2 ∷ [])) }
+{}

@@ -1,0 +1,10 @@
+use denote.Param.Send.{sendable}
+use Rattle.raft_memory.proofs.Sent.{memory_send, memory_sync}
+use Rattle.raft_disk.proofs.Sent.{folder_send, folder_sync, mirror_send, mirror_sync}
+use Rattle.raft_file_scenarios.proofs.calls.wrong_in.Goals as goal
+
+pub first_wrong-requires-send-F : goal.first_wrong-requires-send-F
+first_wrong-requires-send-F c κs = search (sendable, mirror_send, folder_send, memory_send) depth 20
+
+pub first_wrong-requires-sync-F : goal.first_wrong-requires-sync-F
+first_wrong-requires-sync-F c κs = search (sendable, mirror_sync, folder_sync, memory_sync) depth 20
