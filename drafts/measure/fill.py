@@ -195,7 +195,7 @@ def each_that_stays(letter, what="rewrite"):
 
 
 def stays(letter, what):
-    return ", ".join(some_digits(middle(x, letter, what)) for x in ("thousand", "hundred", "million", "many"))
+    return ", ".join(num(middle(x, letter, what)) for x in ("thousand", "hundred", "million", "many"))
 
 
 def rotated(recycled, place, what="rotate"):
@@ -275,7 +275,23 @@ def pause_verdict():
     return some([("a purge", max(long("put-purge", "P")) <= 5), ("short calls", max(long("put-purge-short", "P")) <= 5)])
 
 
+def workers_said(n):
+    part = "1 worker" if n == 1 else f"{n} workers"
+    return ", ".join(of_own("P", (w, f"reopen, {part}"), (w, "reopen in order")) for w, _, _ in OPENED)
+
+
+def lmdb_own(part):
+    found = ns["lmdb", "lmdb", f"fetch, {part}"]
+    return turn_ratio([min(found[i:i + 3]) for i in range(0, len(found), 3)], all_of("P", "append", "fetch"))
+
+
 # -- the spread of the run
+
+# C's fastest turns on the quiet host of 2026-11-29 (0fa8d5bb)
+QUIET = {("append", None): 367, ("append", "entry"): 864, ("append", "entry-in-order"): 321, ("append", "fetch"): 361, ("append-batch", None): 313,
+         ("append-batch", "entry"): 43992, ("append-batch", "entry-in-order"): 160, ("append-batch", "entry-again"): 39871, ("put", None): 264,
+         ("put", "get"): 369, ("put", "reopen in order"): 349, ("overwrite", None): 156, ("put-million", "put"): 459, ("put-million", "get"): 482,
+         ("put-million", "close"): 87, ("put-million", "reopen in order"): 631}
 
 def spreads():
     """Of each part of C, by how much its slowest turn took longer than its fastest."""
@@ -285,23 +301,25 @@ def spreads():
 
 def spread_said():
     found = spreads()
-    worst = found[-1]
-    said = f"C's slowest turn took {100 * found[len(found) // 2][0]:.0f} % longer than its fastest in the middle of its parts"
-    return said + f", at most {100 * worst[0]:.0f} % (`{worst[2]}` of `{worst[1]}`)"
-
-
-def uneven():
-    found = spreads()
     over = sum(1 for x in found if x[0] > 0.15)
-    if not over:
-        return ""
-    return f"**By over 15 % differed {over} of {len(found)}**: judge by ratios within a row."
+    said = f"C's slowest turn took {100 * found[len(found) // 2][0]:.0f} % longer than its fastest in the middle of its {len(found)} parts"
+    return said + f", over 15 % in {over} of them, {100 * found[-1][0]:.0f} % at most"
 
 
 def beats():
     """The least and the most of arithmetic, reads of memory and first touches, divided."""
     found = [x for key, v in told_in.items() if key[2] == "beat" for x in v] or [[1, 1, 1]]
     return [max(x) / min(x) for x in zip(*found)]
+
+
+def beat_reads():
+    """ns of a read, the least and the most."""
+    return between([x[1] for key, v in told_in.items() if key[2] == "beat" for x in v] or [1], num)
+
+
+def all_seconds():
+    """How long the runs took, and the processor's seconds that other commands and other guests took meanwhile."""
+    return tuple(num(sum(x)) for x in zip(*((w["wall"], max(0, w["beside"]), w["steal"] / 100) for w in rows))) or ("?",) * 3
 
 
 def turns():
@@ -313,11 +331,20 @@ def turns():
 
 # -- rows
 
-def ratio(a, b):
+def ratio(over, under, workload, part=None, best=True):
+    """Of the fastest turns, and in brackets the least and the most of the three turns' own ratios."""
     try:
-        return r(a() / b())
-    except (KeyError, ZeroDivisionError):
+        a, b = all_of(over, workload, part), all_of(under, workload, part)
+        own = turn_ratio(a, b)
+        return f"{r(min(a) / min(b))} ({own})" if best else own
+    except (KeyError, ValueError):
         return ""
+
+
+def of_own(letter, over, under, best=True):
+    """The same of two workloads of one program."""
+    a, b = all_of(letter, *over), all_of(letter, *under)
+    return f"{r(min(a) / min(b))} ({turn_ratio(a, b)})"
 
 
 def cell(f, form=num):
@@ -329,7 +356,7 @@ def cell(f, form=num):
 
 def row(label, workload, part=None, form=num):
     by = {x: (lambda x=x: value(x)(workload, part)) for x in "BUPC"}
-    cells = [cell(by[x], form) for x in "BUPC"] + [ratio(by["B"], by["U"]), ratio(by["C"], by["P"])]
+    cells = [cell(by[x], form) for x in "BUPC"] + [ratio("B", "U", workload, part), ratio("C", "P", workload, part)]
     return f"| {label} | " + " | ".join(cells) + " |"
 
 
@@ -341,17 +368,19 @@ def ours(label, text, divided=None):
         except (KeyError, ValueError):
             return ""
     try:
-        last = r(divided("B") / divided("U")) if divided else ""
+        if isinstance(divided, tuple):
+            last = ratio("B", "U", *divided)
+        else:
+            last = r(divided("B") / divided("U")) if divided else ""
     except (KeyError, ValueError, ZeroDivisionError):
         last = ""
     return f"| {label} | " + " | ".join(map(said, "BUP")) + f" | | {last} | |"
 
 
-def workers_of(workload):
+def workers_of(workload, n):
+    """Times an opening in order, of the three turns."""
     def said(letter):
-        f = value(letter)
-        base = f(workload, "reopen in order")
-        return ", ".join(r(f(workload, f"reopen, {n}") / base) for n in ("1 worker", "2 workers", "4 workers"))
+        return turn_ratio(all_of(letter, workload, f"reopen, {n}"), all_of(letter, workload, "reopen in order"))
     return said
 
 
@@ -416,13 +445,15 @@ def fill(template, target):
             bad.append(f"{found[1]}: {e!r}")
             return f"?{found[1]}?"
 
-    text = reflowed(re.sub(r"\{\{(.*?)\}\}", filled, open(template).read(), flags=re.S))
+    text = reflowed(re.sub(r"\{\{(.*?)\}\}", filled, open(template).read(), flags=re.S)).replace("|  |", "| |").replace("|  |", "| |")
     with open(target, "w") as out:
         out.write(text)
     print(len(text.encode()), "bytes,", text.count("\n"), "lines;", len(bad), "not filled")
     for it in bad:
         print("  ", it)
 
+
+C_QUIET = between([C(*key) / was for key, was in QUIET.items()], r) if ("put", "core", "put") in ns or FAKE else "?"
 
 if __name__ == "__main__":
     if not FAKE:

@@ -17,5 +17,4 @@ wait
 ls -la /work/lanes/M-*/prog /work/lanes/M-proved; date
 cat /work/lanes/M-data/*/*.raftlog > /dev/null
 sync
-most=$(($2 < 750 ? $2 : 750)) # the integrator: 12 and a half minutes at most, a second whole gate follows
-python3 measure.py /work/lanes/M-out $((most - $(date +%s) + began))
+python3 measure.py /work/lanes/M-out $(($2 - $(date +%s) + began))

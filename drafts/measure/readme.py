@@ -23,7 +23,7 @@ said = ", ".join(map(r, syncs[:-1])) + f" and {r(syncs[-1])}" if len(syncs) > 1 
 cost = P("put-purge") / P("put-keep")
 speed = f"""## Speed
 
-Over files in memory, in one thread, proved programs of commit 57dc0bbc on {DATE}, the fastest of three runs, in turn with a plain C++ program of the same work without proofs, refusals or checks of arguments (`tools/reference`). docs/PERFORMANCE.md has all of it; raft-engine was not measured.
+Over files in memory, in one thread, proved programs of commit 57dc0bbc on {DATE}, on an uneven host with slow memory, the fastest of three runs, in turn with a plain C++ program of the same work without proofs, refusals or checks of arguments (`tools/reference`). docs/PERFORMANCE.md has all of it, also of a quiet host; raft-engine was not measured.
 
 | Operation | Time | Plain C++ |
 |---|---|---|
@@ -41,5 +41,4 @@ def replaced(pattern, new):
 
 
 replaced(r"[\d.]+ to [\d.]+ ms(\s+)in memory over 100,000 keys", lambda m: f"{ms(long('put-purge', 'P'))} ms{m[1]}in memory over 100,000 keys")
-replaced(r"of [\d.]+ to [\d.]+ ms \(docs/PERFORMANCE\.md\)", lambda m: f"of {ms(long('put-purge-short', 'P'))} ms (docs/PERFORMANCE.md)")
 open(README, "w").write(text)
