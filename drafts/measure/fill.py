@@ -156,9 +156,13 @@ def kb(name, letter):
     return min(kbs[name, NAMES[letter]])
 
 
+def openings(kind, workers, letter):
+    """Of a folder, of each turn, in seconds."""
+    return [x / 1e9 for x in ns[f"opener-{kind}-{workers}", NAMES[letter], "opened"]]
+
+
 def opened(kind, workers, letter):
-    """An opening of a folder, in seconds."""
-    return min(ns[f"opener-{kind}-{workers}", NAMES[letter], "opened"]) / 1e9
+    return min(openings(kind, workers, letter))
 
 
 def bare(kind):
@@ -301,9 +305,8 @@ def spreads():
 
 def spread_said():
     found = spreads()
-    over = sum(1 for x in found if x[0] > 0.15)
-    said = f"C's slowest turn took {100 * found[len(found) // 2][0]:.0f} % longer than its fastest in the middle of its {len(found)} parts"
-    return said + f", over 15 % in {over} of them, {100 * found[-1][0]:.0f} % at most"
+    said = f"C's slowest turn took {100 * statistics.median(x[0] for x in found):.0f} % longer than its fastest in the middle of its {len(found)} parts"
+    return said + f", {100 * found[-1][0]:.0f} % at most"
 
 
 def beats():
@@ -361,7 +364,7 @@ def row(label, workload, part=None, form=num):
 
 
 def ours(label, text, divided=None):
-    """A row of ours alone: what is said of B, U and P, and B / U of a number."""
+    """A row of ours alone: what is said of B, U and P, and B / U of a part, or of what a function has of each turn."""
     def said(letter):
         try:
             return text(letter)
@@ -371,7 +374,8 @@ def ours(label, text, divided=None):
         if isinstance(divided, tuple):
             last = ratio("B", "U", *divided)
         else:
-            last = r(divided("B") / divided("U")) if divided else ""
+            b, u = (divided("B"), divided("U")) if divided else ([], [])
+            last = f"{r(min(b) / min(u))} ({turn_ratio(b, u)})" if divided else ""
     except (KeyError, ValueError, ZeroDivisionError):
         last = ""
     return f"| {label} | " + " | ".join(map(said, "BUP")) + f" | | {last} | |"
