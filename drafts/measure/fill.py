@@ -234,9 +234,9 @@ def IR(name, turned=False):
 OPENED = (("open-files", "keys", 0.5), ("open-entries", "single entries", 0.45), ("open-batches", "batches", 0.4))
 
 
-def by_workers(letter, count):
+def by_workers(workload, count):
     part = "1 worker" if count == 1 else f"{count} workers"
-    return [value(letter)(w, f"reopen, {part}") / value(letter)(w, "reopen in order") for w, _, _ in OPENED]
+    return own_of(all_of("P", workload, f"reopen, {part}"), all_of("P", workload, "reopen in order"))
 
 
 def met(is_so):
@@ -251,10 +251,8 @@ def some(goals):
     return "met for " + ", ".join(reached) + " alone" if reached else "missed"
 
 
-def workers_verdict():
-    four = some([(name, x <= goal) for (_, name, goal), x in zip(OPENED, by_workers("P", 4))])
-    alone = some([(name, x <= 1.05) for (_, name, _), x in zip(OPENED, by_workers("P", 1))])
-    return four if four == alone else f"by 4 {four}; by one {alone}"
+def workers_verdict(count):
+    return told([(name, by_workers(w, count), goal if count == 4 else 1.05, False) for w, name, goal in OPENED])
 
 
 def in_order_verdict():
@@ -262,12 +260,31 @@ def in_order_verdict():
 
 
 def core_verdict():
-    return some([("`append`", C("append") / P("append") >= 0.65), ("`put`", C("put") / P("put") >= 0.6),
-                 ("`fetch`", C("append", "fetch") / P("append", "fetch") >= 0.85)])
+    goals = (("`append`", ("append",), 0.65), ("`put`", ("put",), 0.6), ("`fetch`", ("append", "fetch"), 0.85))
+    return told([(name, own_of(all_of("C", *of), all_of("P", *of)), goal, True) for name, of, goal in goals])
+
+
+def shared_verdict():
+    return told([("puts", own_of(all_of("P", "put-shared"), all_of("P", "put")), 1.15, False),
+                 ("gets", own_of(all_of("P", "put-shared", "get-shared"), all_of("P", "put", "get")), 1.15, False)])
 
 
 def before_verdict():
     return some([("appends", B("append") / U("append") >= 1.25), ("puts", B("put") / U("put") >= 1.15)])
+
+
+def told(goals):
+    """What all turns' own ratios meet or miss; what they differ about isn't told. Each goal: a name, the ratios, the goal, whether it is a least."""
+    by = {"met": [], "missed": [], "not told": []}
+    for name, ratios, goal, is_least in goals:
+        sides = {(x >= goal) if is_least else (x <= goal) for x in ratios}
+        by["not told" if len(sides) == 2 else met(sides.pop())].append(name)
+    found = [(verdict, names) for verdict, names in by.items() if names]
+    return found[0][0] if len(found) == 1 else ", ".join(f"{' and '.join(names)} {verdict}" for verdict, names in found)
+
+
+def own_of(over, under):
+    return [x / y for x, y in zip(over, under)]
 
 
 def through_c_verdict():
