@@ -1,7 +1,7 @@
 //! The command line.
 
 use crate::change_forms::CHANGE_FORMS;
-use crate::forms::{CHANGE_OPTIONS, Form, Kind, OPTIONS, STATUSES, Word};
+use crate::forms::{CHANGE_OPTIONS, Form, Kind, LookSort, OPTIONS, STATUSES, Sort, Word};
 use crate::look_forms::LOOK_FORMS;
 use crate::modes::mode_named;
 use crate::request::{Changing, Dump, Indexes, Load, Look, Options, Purge, Range, Request, Verb};
@@ -23,45 +23,49 @@ const KINDS: [&str; 5] = ["put", "delete", "entry", "clean", "compact"];
 pub fn parse<'a>(alloc: Global, words: &'a [String]) -> Result<Request<'a>, Error> {
     if let Some(word) = words.get(2) {
         if !is_known(word.as_str()) {
-            let text = format!(in alloc; "no command `{word}`; `raftctl --help` lists them")?;
-            return Err(command(alloc)?.error(ErrorKind::InvalidSubcommand, text.as_str())?);
+            return Err(unknown(alloc, word.as_str()));
         }
     }
     let matches = command(alloc)?.try_get_matches_from(words)?;
-    match read_request(alloc, &matches)? {
-        Some(request) => Ok(request),
-        None => Err(Error::from(AllocError)),
-    }
+    read_request(alloc, &matches)
 }
 
 // Whether a word behind the folder is a command, or none was wanted there.
 fn is_known(word: &str) -> bool {
-    word.starts_with('-')
-        || word == "help"
-        || LOOK_FORMS.iter().any(|form| form.name == word)
-        || CHANGE_FORMS.iter().any(|form| form.name == word)
+    word.starts_with('-') || word == "help" || sort_named(word).is_some()
 }
 
-// `None` only for a command line that `command` refuses.
-fn read_request<'a>(alloc: Global, matches: &ArgMatches<'a>) -> Result<Option<Request<'a>>, Error> {
+// What the command of a name does.
+fn sort_named(name: &str) -> Option<Sort> {
+    sort_among(&LOOK_FORMS, name).or(sort_among(&CHANGE_FORMS, name))
+}
+
+fn sort_among(forms: &[Form], name: &str) -> Option<Sort> {
+    for form in forms {
+        if form.name == name {
+            return Some(form.sort);
+        }
+    }
+    None
+}
+
+fn read_request<'a>(alloc: Global, matches: &ArgMatches<'a>) -> Result<Request<'a>, Error> {
+    // None is missing of a command line that `command` takes.
     let (Some(folder), Some((name, rest))) = (matches.get_str("FOLDER"), matches.subcommand())
     else {
-        return Ok(None);
+        return Err(Error::from(AllocError));
     };
     let options = read_options(alloc, rest)?;
-    let verb = match name {
-        "append" => read_append(alloc, rest)?,
-        "rewrite" => Some(Verb::Purge(read_purge(alloc, rest)?)),
-        "dump" => Some(Verb::Look(Look::Dump(read_dump(alloc, rest)?))),
-        _ => read_verb(name, rest),
+    let mut whole = true;
+    let verb = match sort_named(name) {
+        Some(sort) => read_verb(alloc, sort, rest, &mut whole)?,
+        None => return Err(Error::from(AllocError)),
     };
-    match verb {
-        Some(verb) => {
-            let no_sync = rest.get_flag("no-sync");
-            Ok(Some(Request::new(folder, options, verb, no_sync)))
-        }
-        None => Ok(None),
+    if !whole {
+        return Err(Error::from(AllocError));
     }
+    let no_sync = rest.get_flag("no-sync");
+    Ok(Request::new(folder, options, verb, no_sync))
 }
 
 fn read_options<'a>(alloc: Global, matches: &ArgMatches<'a>) -> Result<Options<'a>, Error> {
@@ -70,14 +74,14 @@ fn read_options<'a>(alloc: Global, matches: &ArgMatches<'a>) -> Result<Options<'
         None => RecoveryMode::TolerateTailCorruption,
         Some(word) => match mode_named(word) {
             Some(mode) => mode,
-            None => return Err(wrong(alloc, "--mode", word, "absolute, tail or any")?),
+            None => return Err(wrong(alloc, "--mode", word, "absolute, tail or any")),
         },
     };
     let target = match matches.get_str("target") {
         None => None,
         Some(word) => match ReadableSize::parse(word) {
             Ok(size) => Some(size),
-            Err(_) => return Err(wrong(alloc, "--target", word, "a size, as 128MB")?),
+            Err(_) => return Err(wrong(alloc, "--target", word, "a size, as 128MB")),
         },
     };
     Ok(Options {
@@ -110,7 +114,7 @@ fn read_dump<'a>(alloc: Global, matches: &ArgMatches<'a>) -> Result<Dump<'a>, Er
     if let Some(word) = kind {
         if !KINDS.contains(&word) {
             let wanted = "put, delete, entry, clean or compact";
-            return Err(wrong(alloc, "--kind", word, wanted)?);
+            return Err(wrong(alloc, "--kind", word, wanted));
         }
     }
     Ok(Dump {
@@ -132,80 +136,139 @@ fn read_purge(alloc: Global, matches: &ArgMatches<'_>) -> Result<Purge, Error> {
             "FILES",
             word.unwrap_or(""),
             "append, rewrite or stale",
-        )?),
+        )),
     }
 }
 
 // A word that isn't what is wanted at its place.
-fn wrong(alloc: Global, name: &str, word: &str, wanted: &str) -> Result<Error, AllocError> {
-    let text = format!(in alloc; "{name} is {wanted}, and not `{word}`")?;
-    command(alloc)?.error(ErrorKind::InvalidValue, text.as_str())
+fn wrong(alloc: Global, name: &str, word: &str, wanted: &str) -> Error {
+    match format!(in alloc; "{name} is {wanted}, and not `{word}`") {
+        Ok(said) => refused(alloc, ErrorKind::InvalidValue, said.as_str()),
+        Err(error) => Error::from(error),
+    }
 }
 
-fn read_append<'a>(alloc: Global, matches: &ArgMatches<'a>) -> Result<Option<Verb<'a>>, Error> {
-    let Some(group) = matches.get_one("GROUP") else {
-        return Ok(None);
+// A word that is no command.
+fn unknown(alloc: Global, word: &str) -> Error {
+    match format!(in alloc; "no command `{word}`; `raftctl --help` lists them") {
+        Ok(said) => refused(alloc, ErrorKind::InvalidSubcommand, said.as_str()),
+        Err(error) => Error::from(error),
+    }
+}
+
+fn refused(alloc: Global, kind: ErrorKind, said: &str) -> Error {
+    let made = match command(alloc) {
+        Ok(mut all) => all.error(kind, said),
+        Err(error) => Err(error),
     };
+    match made {
+        Ok(error) => error,
+        Err(error) => Error::from(error),
+    }
+}
+
+// A number that is wanted. A line without it isn't whole.
+fn number(matches: &ArgMatches<'_>, name: &str, whole: &mut bool) -> u64 {
+    match matches.get_one::<u64>(name) {
+        Some(found) => found,
+        None => {
+            *whole = false;
+            0
+        }
+    }
+}
+
+// A text that is wanted.
+fn text<'a>(matches: &ArgMatches<'a>, name: &str, whole: &mut bool) -> &'a str {
+    match matches.get_str(name) {
+        Some(found) => found,
+        None => {
+            *whole = false;
+            ""
+        }
+    }
+}
+
+fn read_append<'a>(
+    alloc: Global,
+    matches: &ArgMatches<'a>,
+    whole: &mut bool,
+) -> Result<Verb<'a>, Error> {
+    let group = number(matches, "GROUP", whole);
     let lines = matches.get_str("lines");
     let values = match matches.get_strs("VALUE") {
         Some(values) => values.to_vec(alloc)?,
         None if lines.is_some() => Vec::new(alloc),
-        None => return Err(wrong(alloc, "VALUE", "", "wanted, or --lines FILE")?),
+        None => return Err(wrong(alloc, "VALUE", "", "wanted, or --lines FILE")),
     };
-    Ok(Some(Verb::Append(group, values, lines, matches.get_one("at"))))
+    Ok(Verb::Append(group, values, lines, matches.get_one("at")))
 }
 
-fn read_verb<'a>(name: &str, matches: &ArgMatches<'a>) -> Option<Verb<'a>> {
-    match name {
-        "load" => return Some(Verb::Load(read_load(matches)?)),
-        "repair" => return Some(Verb::Repair),
-        "purge" => return Some(Verb::Purge(Purge::Expired)),
-        "settings" => return Some(Verb::Settings),
-        "fork" => return Some(Verb::Fork(matches.get_str("TARGET")?)),
-        _ => {}
-    }
-    if let Some(look) = read_look(name, matches) {
-        return Some(Verb::Look(look));
-    }
-    let group = matches.get_one("GROUP")?;
-    match name {
-        "put" => Some(Verb::Put(group, matches.get_str("KEY")?, matches.get_str("VALUE")?)),
-        "lines" if matches.get_flag("entries") => {
-            Some(Verb::EntryLines(group, matches.get_str("FILE")?))
+fn read_verb<'a>(
+    alloc: Global,
+    sort: Sort,
+    matches: &ArgMatches<'a>,
+    whole: &mut bool,
+) -> Result<Verb<'a>, Error> {
+    let verb = match sort {
+        Sort::Put => Verb::Put(
+            number(matches, "GROUP", whole),
+            text(matches, "KEY", whole),
+            text(matches, "VALUE", whole),
+        ),
+        Sort::Lines => {
+            let group = number(matches, "GROUP", whole);
+            let file = text(matches, "FILE", whole);
+            if matches.get_flag("entries") {
+                Verb::EntryLines(group, file)
+            } else {
+                Verb::Lines(group, file)
+            }
         }
-        "lines" => Some(Verb::Lines(group, matches.get_str("FILE")?)),
-        "del" => Some(Verb::Delete(group, matches.get_str("KEY")?)),
-        "compact" => Some(Verb::Compact(group, matches.get_one("INDEX")?)),
-        "clean" => Some(Verb::Clean(group)),
-        _ => None,
+        Sort::Delete => Verb::Delete(number(matches, "GROUP", whole), text(matches, "KEY", whole)),
+        Sort::Append => read_append(alloc, matches, whole)?,
+        Sort::Compact => Verb::Compact(
+            number(matches, "GROUP", whole),
+            number(matches, "INDEX", whole),
+        ),
+        Sort::Clean => Verb::Clean(number(matches, "GROUP", whole)),
+        Sort::Load => Verb::Load(read_load(matches, whole)),
+        Sort::Rewrite => Verb::Purge(read_purge(alloc, matches)?),
+        Sort::Purge => Verb::Purge(Purge::Expired),
+        Sort::Repair => Verb::Repair,
+        Sort::Settings => Verb::Settings,
+        Sort::Fork => Verb::Fork(text(matches, "TARGET", whole)),
+        Sort::Dump => Verb::Look(Look::Dump(read_dump(alloc, matches)?)),
+        Sort::Look(look) => Verb::Look(read_look(look, matches, whole)),
+    };
+    Ok(verb)
+}
+
+fn read_look<'a>(sort: LookSort, matches: &ArgMatches<'a>, whole: &mut bool) -> Look<'a> {
+    match sort {
+        LookSort::Get => Look::Get(number(matches, "GROUP", whole), text(matches, "KEY", whole)),
+        LookSort::List => Look::List(matches.get_one("GROUP"), matches.get_one("limit")),
+        LookSort::Scan => Look::Scan(number(matches, "GROUP", whole), read_range(matches)),
+        LookSort::Entry => Look::Entry(
+            number(matches, "GROUP", whole),
+            number(matches, "INDEX", whole),
+        ),
+        LookSort::Entries => Look::Entries(number(matches, "GROUP", whole), read_indexes(matches)),
+        LookSort::Groups => Look::Groups,
+        LookSort::Stat => Look::Stat,
+        LookSort::Check => Look::Check,
+        LookSort::Consistency => Look::Consistency,
+        LookSort::Picture => Look::Picture,
+        LookSort::Verify => Look::Verify(read_load(matches, whole)),
     }
 }
 
-fn read_look<'a>(name: &str, matches: &ArgMatches<'a>) -> Option<Look<'a>> {
-    match name {
-        "get" => Some(Look::Get(matches.get_one("GROUP")?, matches.get_str("KEY")?)),
-        "list" => Some(Look::List(matches.get_one("GROUP"), matches.get_one("limit"))),
-        "scan" => Some(Look::Scan(matches.get_one("GROUP")?, read_range(matches))),
-        "entry" => Some(Look::Entry(matches.get_one("GROUP")?, matches.get_one("INDEX")?)),
-        "entries" => read_entries(matches),
-        "groups" => Some(Look::Groups),
-        "stat" => Some(Look::Stat),
-        "verify" => Some(Look::Verify(read_load(matches)?)),
-        "check" => Some(Look::Check),
-        "consistency" => Some(Look::Consistency),
-        "picture" => Some(Look::Picture),
-        _ => None,
-    }
-}
-
-fn read_entries<'a>(matches: &ArgMatches<'a>) -> Option<Look<'a>> {
-    let group = matches.get_one("GROUP")?;
-    let indexes = Indexes {
+fn read_indexes(matches: &ArgMatches<'_>) -> Indexes {
+    Indexes {
         from: matches.get_one("FROM"),
         to: matches.get_one("TO"),
         limit: matches.get_one("limit"),
-    };
-    Some(Look::Entries(group, indexes))
+    }
 }
 
 fn read_range<'a>(matches: &ArgMatches<'a>) -> Range<'a> {
@@ -217,23 +280,19 @@ fn read_range<'a>(matches: &ArgMatches<'a>) -> Range<'a> {
     }
 }
 
-fn read_load(matches: &ArgMatches<'_>) -> Option<Load> {
-    Some(Load {
-        count: matches.get_one("COUNT")?,
-        size: matches.get_one("SIZE")?,
+fn read_load(matches: &ArgMatches<'_>, whole: &mut bool) -> Load {
+    Load {
+        count: number(matches, "COUNT", whole),
+        size: number(matches, "SIZE", whole),
         sync_each: matches.get_one("sync-each").unwrap_or(1),
         purge_each: matches.get_one("purge-each").unwrap_or(0),
-    })
+    }
 }
 
 fn command<'a>(alloc: Global) -> Result<Command<'a>, AllocError> {
     let mut subcommands = Vec::new(alloc);
-    for form in &LOOK_FORMS {
-        subcommands.push(subcommand(alloc, form, &[])?)?;
-    }
-    for form in &CHANGE_FORMS {
-        subcommands.push(subcommand(alloc, form, &CHANGE_OPTIONS)?)?;
-    }
+    add_subcommands(alloc, &LOOK_FORMS, &[], &mut subcommands)?;
+    add_subcommands(alloc, &CHANGE_FORMS, &CHANGE_OPTIONS, &mut subcommands)?;
     let folder = Word(
         "FOLDER",
         Kind::Text,
@@ -246,6 +305,18 @@ fn command<'a>(alloc: Global) -> Result<Command<'a>, AllocError> {
         .subcommand_required(true)
         .arg(argument(alloc, folder))?
         .subcommands(subcommands)
+}
+
+fn add_subcommands<'a>(
+    alloc: Global,
+    forms: &[Form],
+    options: &[Word],
+    subcommands: &mut Vec<Command<'a>>,
+) -> Result<(), AllocError> {
+    for form in forms {
+        subcommands.push(subcommand(alloc, form, options)?)?;
+    }
+    Ok(())
 }
 
 fn subcommand<'a>(alloc: Global, form: &Form, options: &[Word]) -> Result<Command<'a>, AllocError> {

@@ -1,10 +1,11 @@
 //! The commands that change a log, as rows of a table.
 
-use crate::forms::{COUNT, DRY_RUN, Form, GROUP, KEY, Kind, NO_SYNC, SIZE, Word};
+use crate::forms::{COUNT, DRY_RUN, Form, GROUP, KEY, Kind, NO_SYNC, SIZE, Sort, Word};
 
-pub(crate) const CHANGE_FORMS: [Form; 10] = [
+pub(crate) static CHANGE_FORMS: [Form; 10] = [
     Form {
         name: "put",
+        sort: Sort::Put,
         about: "Puts a value at a key of a group, and syncs it",
         words: &[
             GROUP,
@@ -20,6 +21,7 @@ pub(crate) const CHANGE_FORMS: [Form; 10] = [
     },
     Form {
         name: "lines",
+        sort: Sort::Lines,
         about: "Puts the keys and values of a file of lines, each a key, a tab and a value; with --entries adds its entries",
         words: &[
             GROUP,
@@ -35,12 +37,14 @@ pub(crate) const CHANGE_FORMS: [Form; 10] = [
     },
     Form {
         name: "del",
+        sort: Sort::Delete,
         about: "Deletes a key of a group, and syncs that",
         words: &[GROUP, KEY, NO_SYNC],
         example: "Example: raftctl log del 1 name",
     },
     Form {
         name: "append",
+        sort: Sort::Append,
         about: "Adds entries to a group, syncs them, and prints the first and the last index of them",
         words: &[
             GROUP,
@@ -65,6 +69,7 @@ pub(crate) const CHANGE_FORMS: [Form; 10] = [
     },
     Form {
         name: "compact",
+        sort: Sort::Compact,
         about: "Drops the entries of a group below an index, syncs that, and prints how many",
         words: &[
             GROUP,
@@ -75,12 +80,14 @@ pub(crate) const CHANGE_FORMS: [Form; 10] = [
     },
     Form {
         name: "clean",
+        sort: Sort::Clean,
         about: "Drops all entries and keys of a group, and syncs that",
         words: &[GROUP, NO_SYNC],
         example: "Example: raftctl log clean 1",
     },
     Form {
         name: "load",
+        sort: Sort::Load,
         about: "Puts keys numbered from 0 into group 1, and prints `synced I` after each sync",
         words: &[
             COUNT,
@@ -100,6 +107,7 @@ pub(crate) const CHANGE_FORMS: [Form; 10] = [
     },
     Form {
         name: "rewrite",
+        sort: Sort::Rewrite,
         about: "Writes what still counts in log files anew, drops these, and prints how many, and which files are kept to be used again",
         words: &[
             Word(
@@ -113,12 +121,14 @@ pub(crate) const CHANGE_FORMS: [Form; 10] = [
     },
     Form {
         name: "purge",
+        sort: Sort::Purge,
         about: "Drops log files as `rewrite` does, as far as the settings' thresholds ask for it; prints the groups to compact before",
         words: &[DRY_RUN],
         example: "Example: raftctl log purge",
     },
     Form {
         name: "repair",
+        sort: Sort::Repair,
         about: "Opens the log in --mode, and keeps what that cuts off in files beside; with --cut moves files aside that it passes over",
         words: &[DRY_RUN],
         example: "Example: raftctl log repair --mode any",

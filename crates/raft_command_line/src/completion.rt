@@ -36,19 +36,32 @@ complete -F _raftctl raftctl
 /// A script for bash, of all commands and their words.
 pub fn completion_script(alloc: Global) -> Result<String, AllocError> {
     let mut script = String::from_str(alloc, FRONT)?;
-    for form in LOOK_FORMS.iter().chain(&CHANGE_FORMS) {
+    add_all(&mut script)?;
+    Ok(script)
+}
+
+fn add_all(script: &mut String) -> Result<(), AllocError> {
+    add_names(&LOOK_FORMS, script)?;
+    add_names(&CHANGE_FORMS, script)?;
+    script.push_str(MIDDLE)?;
+    add_forms(&LOOK_FORMS, &[], script)?;
+    add_forms(&CHANGE_FORMS, &CHANGE_OPTIONS, script)?;
+    script.push_str(END)
+}
+
+fn add_names(forms: &[Form], script: &mut String) -> Result<(), AllocError> {
+    for form in forms {
         script.push_str(form.name)?;
         script.push(' ')?;
     }
-    script.push_str(MIDDLE)?;
-    for form in &LOOK_FORMS {
-        add_form(form, &[], &mut script)?;
+    Ok(())
+}
+
+fn add_forms(forms: &[Form], options: &[Word], script: &mut String) -> Result<(), AllocError> {
+    for form in forms {
+        add_form(form, options, script)?;
     }
-    for form in &CHANGE_FORMS {
-        add_form(form, &CHANGE_OPTIONS, &mut script)?;
-    }
-    script.push_str(END)?;
-    Ok(script)
+    Ok(())
 }
 
 // A line of the words that begin with `--` of a command.
@@ -56,10 +69,17 @@ fn add_form(form: &Form, options: &[Word], script: &mut String) -> Result<(), Al
     script.push_str("    ")?;
     script.push_str(form.name)?;
     script.push_str(") words=\"")?;
-    for word in form.words.iter().chain(options).chain(&OPTIONS) {
+    add_words(form.words, script)?;
+    add_words(options, script)?;
+    add_words(&OPTIONS, script)?;
+    script.push_str("\" ;;\n")
+}
+
+fn add_words(words: &[Word], script: &mut String) -> Result<(), AllocError> {
+    for word in words {
         add_word(*word, script)?;
     }
-    script.push_str("\" ;;\n")
+    Ok(())
 }
 
 fn add_word(word: Word, script: &mut String) -> Result<(), AllocError> {

@@ -4,9 +4,45 @@
 #[derive(Clone, Copy)]
 pub(crate) struct Form {
     pub name: &'static str,
+    pub sort: Sort,
     pub about: &'static str,
     pub words: &'static [Word],
     pub example: &'static str,
+}
+
+/// What a command does.
+#[derive(Clone, Copy)]
+pub(crate) enum Sort {
+    Put,
+    Lines,
+    Delete,
+    Append,
+    Compact,
+    Clean,
+    Load,
+    Rewrite,
+    Purge,
+    Repair,
+    Settings,
+    Fork,
+    Dump,
+    Look(LookSort),
+}
+
+/// What a command looks at.
+#[derive(Clone, Copy)]
+pub(crate) enum LookSort {
+    Get,
+    List,
+    Scan,
+    Entry,
+    Entries,
+    Groups,
+    Stat,
+    Check,
+    Consistency,
+    Picture,
+    Verify,
 }
 
 /// A word's name, what it is, and what its help says.
@@ -47,7 +83,7 @@ Statuses:
 `raftctl help COMMAND` has an example of each command.";
 
 /// The words that each command takes.
-pub(crate) const OPTIONS: [Word; 8] = [
+pub(crate) static OPTIONS: [Word; 8] = [
     Word(
         "settings",
         Kind::NamedText,
@@ -83,7 +119,7 @@ pub(crate) const OPTIONS: [Word; 8] = [
 ];
 
 /// The words that each command that changes a log takes.
-pub(crate) const CHANGE_OPTIONS: [Word; 3] = [
+pub(crate) static CHANGE_OPTIONS: [Word; 3] = [
     Word(
         "cut",
         Kind::Flag,

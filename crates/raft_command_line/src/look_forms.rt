@@ -1,16 +1,18 @@
 //! The commands that leave a log as it is, as rows of a table.
 
-use crate::forms::{COUNT, Form, GROUP, KEY, Kind, LIMIT, RAW, SIZE, Word};
+use crate::forms::{COUNT, Form, GROUP, KEY, Kind, LIMIT, LookSort, RAW, SIZE, Sort, Word};
 
-pub(crate) const LOOK_FORMS: [Form; 14] = [
+pub(crate) static LOOK_FORMS: [Form; 14] = [
     Form {
         name: "get",
+        sort: Sort::Look(LookSort::Get),
         about: "Prints the value at a key; with status 3 where there is none",
         words: &[GROUP, KEY, RAW],
         example: "Example: raftctl log get 1 name --raw > value",
     },
     Form {
         name: "list",
+        sort: Sort::Look(LookSort::List),
         about: "Prints a line for each key: its group, itself and the bytes of its value",
         words: &[
             Word("GROUP", Kind::Optional, "The keys of this group alone"),
@@ -20,6 +22,7 @@ pub(crate) const LOOK_FORMS: [Form; 14] = [
     },
     Form {
         name: "scan",
+        sort: Sort::Look(LookSort::Scan),
         about: "Prints a line for each key of a group in a range: itself and its value",
         words: &[
             GROUP,
@@ -36,6 +39,7 @@ pub(crate) const LOOK_FORMS: [Form; 14] = [
     },
     Form {
         name: "entry",
+        sort: Sort::Look(LookSort::Entry),
         about: "Prints the value of an entry; with status 3 where there is none",
         words: &[
             GROUP,
@@ -46,6 +50,7 @@ pub(crate) const LOOK_FORMS: [Form; 14] = [
     },
     Form {
         name: "entries",
+        sort: Sort::Look(LookSort::Entries),
         about: "Prints a line for each entry of a group: its index and its value",
         words: &[
             GROUP,
@@ -65,18 +70,21 @@ pub(crate) const LOOK_FORMS: [Form; 14] = [
     },
     Form {
         name: "groups",
+        sort: Sort::Look(LookSort::Groups),
         about: "Prints a line for each group: its number",
         words: &[],
         example: "Example: raftctl log groups",
     },
     Form {
         name: "stat",
+        sort: Sort::Look(LookSort::Stat),
         about: "Prints what the log holds, what an opening would lose, and a line for each group and file: how many bytes are live; with --json one object",
         words: &[],
         example: "Example: raftctl log stat --json",
     },
     Form {
         name: "dump",
+        sort: Sort::Dump,
         about: "Prints a line for each item of the log files; status 4 where one can't be read on",
         words: &[
             Word(
@@ -105,36 +113,42 @@ pub(crate) const LOOK_FORMS: [Form; 14] = [
     },
     Form {
         name: "check",
+        sort: Sort::Look(LookSort::Check),
         about: "Prints a line for each file: what can be read, and what an opening in each mode would do; status 4 where one in --mode would cut something off, 5 where it would fail, 6 where it would pass files over",
         words: &[],
         example: "Example: raftctl log check --mode absolute",
     },
     Form {
         name: "consistency",
+        sort: Sort::Look(LookSort::Consistency),
         about: "Prints a line for each group whose entries have a hole, with the last index before the first one; status 3 where there is one",
         words: &[],
         example: "Example: raftctl log consistency --json",
     },
     Form {
         name: "picture",
+        sort: Sort::Look(LookSort::Picture),
         about: "Prints a picture in SVG: the files to scale, and what the index refers to of each",
         words: &[],
         example: "Example: raftctl log picture > log.svg",
     },
     Form {
         name: "verify",
+        sort: Sort::Look(LookSort::Verify),
         about: "Counts the keys of `load` from 0 on; status 3 where one stands after a gap",
         words: &[COUNT, SIZE],
         example: "Example: raftctl log verify 1000000 100",
     },
     Form {
         name: "settings",
+        sort: Sort::Settings,
         about: "Prints the settings in force, in TOML",
         words: &[],
         example: "Example: raftctl log settings --target 64MB > log.toml",
     },
     Form {
         name: "fork",
+        sort: Sort::Fork,
         about: "Copies the log files that an opening keeps into a folder, and syncs them",
         words: &[Word(
             "TARGET",

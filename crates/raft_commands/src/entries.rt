@@ -30,10 +30,7 @@ pub(crate) fn append<F: FileSystem>(
     if values.is_empty() {
         return Err(anyhow!("there is no value to append"));
     }
-    let next = engine
-        .last_index(group)
-        .map_or(1, |last| last.saturating_add(1));
-    let first = at.unwrap_or(next);
+    let first = at.unwrap_or(behind(engine.last_index(group), 1));
     if let Err(fault) = append_from(alloc, engine, group, first, values, sync) {
         return Err(failure("the entries cannot be appended", &fault));
     }
@@ -91,10 +88,7 @@ pub(crate) fn list<F: FileSystem>(
     out: &mut Output,
 ) -> Result<bool> {
     let begin = indexes.from.or(engine.first_index(group)).unwrap_or(0);
-    let end = indexes
-        .to
-        .or(engine.last_index(group))
-        .map_or(begin, |last| last.saturating_add(1))
+    let end = behind(indexes.to.or(engine.last_index(group)), begin)
         .min(begin.saturating_add(indexes.limit.unwrap_or(u64::MAX)));
     let mut next = begin;
     for _ in 0..u64::MAX {
@@ -108,6 +102,14 @@ pub(crate) fn list<F: FileSystem>(
         next = next.saturating_add(count as u64);
     }
     Ok(true)
+}
+
+// The index behind a last one.
+fn behind(last: Option<u64>, without: u64) -> u64 {
+    match last {
+        Some(last) => last.saturating_add(1),
+        None => without,
+    }
 }
 
 // Prints as many entries as one page has room for, and says how many.

@@ -5,12 +5,12 @@ use crate::kept::{free_name, keep};
 use crate::opening::config;
 use anyhow::{Result, anyhow};
 use raft_command_line::{Request, Verb};
-use raft_console::{failure, note};
+use raft_console::{failure, note_made};
 use raft_dump::log_files;
 use raft_env::FileSystem;
 use raft_inspect::{Cut, Losses, Passed, Unexplained, queue_name};
 use raft_looks::{Folder, LeftOut};
-use raft_records::Fault;
+use raft_records::{Fault, FileId};
 use std::alloc::{AllocError, Global};
 use std::{fs, io};
 
@@ -42,23 +42,33 @@ pub(crate) fn guard<F: FileSystem + ChangedFiles>(
     files: &mut F,
     request: &Request<'_>,
 ) -> Result<Option<Vec<Taken>>> {
-    let alloc = rt.alloc();
-    let losses = match found(alloc, files, request) {
-        Ok(losses) => losses,
-        Err(fault) => return Err(failure("the files cannot be checked", &fault)),
-    };
-    let left_out = left_out(rt, &losses, request)?;
-    let causes = match causes(alloc, files, &losses, &left_out, request) {
-        Ok(causes) => causes,
-        Err(fault) => return Err(failure("the files cannot be checked", &fault)),
-    };
-    if causes.is_empty() {
-        note_passed(rt, &losses.passed, request)?;
-        note_left_out(rt, &left_out, request)?;
-        return Ok(Some(take(rt, files, &losses, request)?));
+    match found(rt.alloc(), files, request) {
+        Ok(losses) => guard_losses(rt, files, &losses, request),
+        Err(fault) => Err(failure("the files cannot be checked", &fault)),
     }
+}
+
+fn guard_losses<F: FileSystem + ChangedFiles>(
+    rt: &HostRuntime,
+    files: &mut F,
+    losses: &Losses,
+    request: &Request<'_>,
+) -> Result<Option<Vec<Taken>>> {
+    let left_out = left_out(rt, losses, request)?;
+    match causes(rt.alloc(), files, losses, &left_out, request) {
+        Ok(causes) if causes.is_empty() => take(rt, files, losses, &left_out, request),
+        Ok(causes) => refuse(rt, &causes, request),
+        Err(fault) => Err(failure("the files cannot be checked", &fault)),
+    }
+}
+
+fn refuse(
+    rt: &HostRuntime,
+    causes: &[String],
+    request: &Request<'_>,
+) -> Result<Option<Vec<Taken>>> {
     let folder = request.folder;
-    for cause in &causes {
+    for cause in causes {
         eprintln!(rt; "raftctl: {folder}: {cause}")?;
     }
     eprintln!(rt; "raftctl: {folder}: {REFUSED}")?;
@@ -132,8 +142,7 @@ pub(crate) fn note_passed(
     request: &Request<'_>,
 ) -> Result<()> {
     for each in passed {
-        let text = told_of(rt.alloc(), *each)?;
-        note(rt, &request.options, text.as_str())?;
+        note_made(rt, &request.options, told_of(rt.alloc(), *each))?;
     }
     Ok(())
 }
@@ -141,8 +150,7 @@ pub(crate) fn note_passed(
 /// Tells of files of the log that aren't read.
 pub fn note_left_out(rt: &HostRuntime, left_out: &[LeftOut], request: &Request<'_>) -> Result<()> {
     for each in left_out {
-        let text = told_left_out(rt.alloc(), each)?;
-        note(rt, &request.options, text.as_str())?;
+        note_made(rt, &request.options, told_left_out(rt.alloc(), each))?;
     }
     Ok(())
 }
@@ -177,16 +185,20 @@ fn told_of(alloc: Global, passed: Passed) -> Result<String, AllocError> {
     )
 }
 
-// Keeps what is cut off, and moves aside what is passed over, where that is asked for.
+// Tells what isn't read, keeps what is cut off, and moves aside what is passed over, where that is
+// asked for.
 fn take<F: FileSystem + ChangedFiles>(
     rt: &HostRuntime,
     files: &mut F,
     losses: &Losses,
+    left_out: &[LeftOut],
     request: &Request<'_>,
-) -> Result<Vec<Taken>> {
+) -> Result<Option<Vec<Taken>>> {
+    note_passed(rt, &losses.passed, request)?;
+    note_left_out(rt, left_out, request)?;
     let mut taken = Vec::new(rt.alloc());
     match take_each(rt, files, losses, request, &mut taken) {
-        Ok(()) => Ok(taken),
+        Ok(()) => Ok(Some(taken)),
         Err(error) => {
             give_back(rt, request, &taken)?;
             note_moved(rt, request, &taken)?;
@@ -259,8 +271,10 @@ fn move_aside<F: FileSystem + ChangedFiles>(
 ) -> Result<()> {
     let alloc = rt.alloc();
     for path in paths_passed(alloc, files, losses, request)? {
-        let name = format!(in alloc; "{path}.passed")?;
-        let kept = free_name(rt, request.folder, name.as_str())?;
+        let kept = {
+            let name = format!(in alloc; "{path}.passed")?;
+            free_name(rt, request.folder, name.as_str())?
+        };
         let len = fs::metadata(rt, format!(in alloc; "{}/{path}", request.folder)?.as_str())?.len();
         if let Err(fault) = files.rename(path.as_str(), kept.as_str()) {
             files.tell_refusal(rt)?;
@@ -296,9 +310,7 @@ fn paths_passed<F: FileSystem>(
             Err(fault) => return Err(anyhow!("{}", fault.with_path(alloc, folder))),
         };
         for file in log_files(alloc, folder, &names)? {
-            let is_passed = losses.passed.iter().any(|passed| passed.queue == file.id.queue
-                && file.id.seq <= passed.last);
-            if is_passed {
+            if is_passed(&losses.passed, file.id) {
                 paths.push(file.path)?;
             }
         }
@@ -306,11 +318,19 @@ fn paths_passed<F: FileSystem>(
     Ok(paths)
 }
 
+fn is_passed(passed: &[Passed], id: FileId) -> bool {
+    for each in passed {
+        if each.queue == id.queue && id.seq <= each.last {
+            return true;
+        }
+    }
+    false
+}
+
 /// Tells on standard error what an opening took out of log files.
 pub(crate) fn note_taken(rt: &HostRuntime, request: &Request<'_>, taken: &[Taken]) -> Result<()> {
     for each in taken {
-        let text = note_of(rt.alloc(), each)?;
-        note(rt, &request.options, text.as_str())?;
+        note_made(rt, &request.options, note_of(rt.alloc(), each))?;
     }
     Ok(())
 }
@@ -344,8 +364,8 @@ fn give_back_one(
     };
     if is_left {
         let (path, len) = (taken.path.as_str(), taken.len);
-        let text = format!(in alloc; "{kept} keeps {len} bytes of {path} from {offset} on")?;
-        note(rt, &request.options, text.as_str())?;
+        let text = format!(in alloc; "{kept} keeps {len} bytes of {path} from {offset} on");
+        return note_made(rt, &request.options, text);
     }
     Ok(())
 }
@@ -357,8 +377,8 @@ fn note_moved(rt: &HostRuntime, request: &Request<'_>, taken: &[Taken]) -> Resul
     }
     for each in taken {
         if let (None, Some(kept)) = (each.offset, &each.kept) {
-            let text = format!(in rt.alloc(); "{} was moved aside to {kept}", each.path)?;
-            note(rt, &request.options, text.as_str())?;
+            let text = format!(in rt.alloc(); "{} was moved aside to {kept}", each.path);
+            note_made(rt, &request.options, text)?;
         }
     }
     Ok(())

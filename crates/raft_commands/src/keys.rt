@@ -2,7 +2,7 @@
 
 use anyhow::{Error, Result};
 use raft_command_line::{Options, Range};
-use raft_console::{Output, bytes_of, failure};
+use raft_console::{Output, bytes_of, failure, or_failure};
 use raft_env::FileSystem;
 use raft_inspect::Word;
 use raft_log_engine::Engine;
@@ -83,7 +83,11 @@ pub(crate) fn list<F: FileSystem>(
     let bounds = Bounds::all();
     let mut printer = Printer::new(rt, options, Shown::Lengths, limit);
     for each in groups {
-        if group.is_none_or(|group| group == each) {
+        let is_listed = match group {
+            Some(group) => group == each,
+            None => true,
+        };
+        if is_listed {
             printer.group = each;
             show(engine, &bounds, &mut printer)?;
         }
@@ -111,18 +115,20 @@ fn show<F: FileSystem>(engine: &Engine<F>, bounds: &Bounds, printer: &mut Printe
     if printer.left == 0 {
         return Ok(());
     }
-    let from = bounds.from.as_ref().map(|key| key.as_slice());
-    let to = bounds.to.as_ref().map(|key| key.as_slice());
     let scanned = engine.scan_raw_messages(
         printer.group,
-        from,
-        to,
+        slice_of(&bounds.from),
+        slice_of(&bounds.to),
         bounds.reverse,
         &mut |key: &[u8], value: &[u8]| printer.print(key, value),
     );
-    match scanned {
-        Ok(()) => Ok(()),
-        Err(fault) => Err(failure("the keys cannot be read", &fault)),
+    or_failure(scanned, "the keys cannot be read")
+}
+
+fn slice_of(key: &Option<Vec<u8>>) -> Option<&[u8]> {
+    match key {
+        Some(key) => Some(key.as_slice()),
+        None => None,
     }
 }
 

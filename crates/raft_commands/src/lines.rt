@@ -3,7 +3,7 @@
 use anyhow::{Result, anyhow};
 use raft_command_line::Request;
 use raft_console::{
-    EntryLine, Pair, Progress, Spelling, failure, file_or_input, read_entry_lines, read_lines,
+    Pair, Progress, Spelling, failure, file_or_input, or_failure, read_entry_lines, read_lines,
     read_values,
 };
 use raft_env::FileSystem;
@@ -31,9 +31,7 @@ pub(crate) fn put_lines<F: FileSystem>(
     let mut progress = Progress::new(*rt, request.options.quiet)?;
     write_all(engine, batches, &mut progress)?;
     if request.sync {
-        if let Err(fault) = engine.sync() {
-            return Err(failure("the lines cannot be synced", &fault));
-        }
+        return or_failure(engine.sync(), "the lines cannot be synced");
     }
     Ok(())
 }
@@ -58,22 +56,26 @@ pub(crate) fn read_entry_file(
     request: &Request<'_>,
 ) -> Result<(Option<u64>, Vec<Vec<u8>>)> {
     let text = file_or_input(rt, path)?;
-    let read = read_entry_lines(rt.alloc(), &text, Spelling::of(&request.options));
-    match read.and_then(|lines| values_in(rt.alloc(), lines)) {
+    match entries_in(rt.alloc(), &text, Spelling::of(&request.options)) {
         Ok(entries) => Ok(entries),
         Err(error) => Err(error.context(path)),
     }
 }
 
-fn values_in(alloc: Global, lines: Vec<EntryLine>) -> Result<(Option<u64>, Vec<Vec<u8>>)> {
+fn entries_in(
+    alloc: Global,
+    text: &[u8],
+    spelling: Spelling,
+) -> Result<(Option<u64>, Vec<Vec<u8>>)> {
     let mut values = Vec::new(alloc);
     let mut first = None;
-    let mut next = None;
-    for (index, value) in lines {
-        if next.is_some_and(|next| next != index) {
-            return Err(anyhow!("index {index} doesn't follow the one before it"));
+    let mut next: Option<u64> = None;
+    for (index, value) in read_entry_lines(alloc, text, spelling)? {
+        match next {
+            None => first = Some(index),
+            Some(next) if next == index => {}
+            Some(_) => return Err(anyhow!("index {index} doesn't follow the one before it")),
         }
-        first = first.or(Some(index));
         next = Some(index.saturating_add(1));
         values.push(value)?;
     }

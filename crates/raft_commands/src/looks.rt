@@ -11,7 +11,7 @@ use crate::stored::Total;
 use crate::{entries, keys, numbered};
 use anyhow::{Result, anyhow};
 use raft_command_line::{Look, Request};
-use raft_console::{Output, Progress, Status, bytes_of, note};
+use raft_console::{Output, Progress, Status, bytes_of, note_made};
 use raft_env::FileSystem;
 use raft_inspect::{Cut, Passed};
 use raft_log_engine::Engine;
@@ -100,8 +100,8 @@ pub(crate) fn note_use(rt: &HostRuntime, folder: &Folder, request: &Request<'_>)
         return Ok(());
     }
     let path = request.folder;
-    let text = format!(in rt.alloc(); "{path} is open already, and what is read of it may change")?;
-    Ok(note(rt, &request.options, text.as_str())?)
+    let text = format!(in rt.alloc(); "{path} is open already, and what is read of it may change");
+    note_made(rt, &request.options, text)
 }
 
 /// Tells of files that an opening passes over, or whose folder isn't read.
@@ -118,8 +118,8 @@ pub(crate) fn note_unread(
 // The files that an opening passes over.
 fn passed_in(alloc: Global, folder: &Folder, progress: &mut Progress) -> Result<Vec<Passed>> {
     let mut passed = Vec::new(alloc);
-    for queue in [LogQueue::Rewrite, LogQueue::Append] {
-        if let Some(found) = folder.passed(queue, progress)? {
+    for queue in &[LogQueue::Rewrite, LogQueue::Append] {
+        if let Some(found) = folder.passed(*queue, progress)? {
             passed.push(found)?;
         }
     }
@@ -152,10 +152,10 @@ fn note_cuts<F: FileSystem>(
     image: &mut F,
     request: &Request<'_>,
 ) -> Result<()> {
-    for queue in [LogQueue::Rewrite, LogQueue::Append] {
-        for cut in folder.cuts(image, queue, request.options.mode)? {
+    for queue in &[LogQueue::Rewrite, LogQueue::Append] {
+        for cut in folder.cuts(image, *queue, request.options.mode)? {
             if !cut.stale {
-                note(rt, &request.options, told_of(rt.alloc(), &cut)?.as_str())?;
+                note_made(rt, &request.options, told_of(rt.alloc(), &cut))?;
             }
         }
     }
@@ -185,11 +185,12 @@ fn show<R: Threads + Sync, F: FileSystem + Drop>(
         Look::Picture => print_picture(rt, &mut image, request),
         _ => {
             let mut engine = open_image(threads, rt.alloc(), image, options)?;
-            if find(rt, &mut engine, request, look, out)? {
+            let found = find(rt, &mut engine, request, look, out);
+            engine.give_up();
+            if found? {
                 return Ok(Status::Done);
             }
-            let text = told_absent(rt.alloc(), look)?;
-            note(rt, options, text.as_str())?;
+            note_made(rt, options, told_absent(rt.alloc(), look))?;
             Ok(Status::Absent)
         }
     }

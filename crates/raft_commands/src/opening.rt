@@ -4,7 +4,7 @@ use crate::changed::ChangedFiles;
 use anyhow::{Result, anyhow};
 use raft_command_line::{Options, mode_name};
 use raft_config::{Config, RecoveryMode};
-use raft_console::{failure, note};
+use raft_console::{failure, note_made};
 use raft_env::FileSystem;
 use raft_inspect::{QueueFiles, inspect};
 use raft_log_engine::{Engine, Refused};
@@ -75,8 +75,8 @@ fn delete_empty<F: FileSystem + ChangedFiles>(
 ) -> Result<bool> {
     let alloc = rt.alloc();
     let mut is_one = false;
-    for queue in [LogQueue::Append, LogQueue::Rewrite] {
-        let Some(path) = empty_last(alloc, files, queue, options)? else {
+    for queue in &[LogQueue::Append, LogQueue::Rewrite] {
+        let Some(path) = empty_last(alloc, files, *queue, options)? else {
             continue;
         };
         if let Err(fault) = files.delete(path.as_str()) {
@@ -86,8 +86,8 @@ fn delete_empty<F: FileSystem + ChangedFiles>(
         }
         let text = format!(in alloc;
             "{path} held nothing, and no space is left for its header: it was deleted"
-        )?;
-        note(rt, options, text.as_str())?;
+        );
+        note_made(rt, options, text)?;
         is_one = true;
     }
     Ok(is_one)
@@ -190,8 +190,8 @@ pub(crate) fn broken<F: FileSystem>(
     options: &Options<'_>,
 ) -> Result<Option<String>, Fault> {
     let folders = options.folders(alloc)?;
-    for queue in [LogQueue::Append, LogQueue::Rewrite] {
-        let found = inspect(alloc, files, &folders, queue)?;
+    for queue in &[LogQueue::Append, LogQueue::Rewrite] {
+        let found = inspect(alloc, files, &folders, *queue)?;
         if let Some(said) = broken_place(alloc, &found, options.mode)? {
             return Ok(Some(said));
         }
@@ -220,12 +220,12 @@ fn broken_place(
 }
 
 fn mode_that_opens(alloc: Global, found: &QueueFiles) -> Result<Option<RecoveryMode>, Fault> {
-    for mode in [
+    for mode in &[
         RecoveryMode::TolerateTailCorruption,
         RecoveryMode::TolerateAnyCorruption,
     ] {
-        if found.failing(alloc, mode)?.is_none() {
-            return Ok(Some(mode));
+        if found.failing(alloc, *mode)?.is_none() {
+            return Ok(Some(*mode));
         }
     }
     Ok(None)

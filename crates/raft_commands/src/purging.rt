@@ -5,7 +5,7 @@ use crate::opening::{close, config, open};
 use crate::stored::{Stored, Total};
 use anyhow::Result;
 use raft_command_line::{Options, Purge};
-use raft_console::{Output, Progress, Status, failure, note};
+use raft_console::{Output, Progress, Status, failure, note_made, or_failure};
 use raft_env::FileSystem;
 use raft_inspect::Word;
 use raft_log_engine::Engine;
@@ -31,15 +31,23 @@ pub(crate) fn purge<R: Threads + Sync, F: FileSystem + ChangedFiles + Drop>(
     let mut left = purge_and_close(rt, engine, purge, &mut progress, out)?;
     let after = find(alloc, &mut left, options)?;
     let gone = before.gone(&left);
+    tell_gone(rt, purge, &before, gone, after.reserved, options, out)
+}
+
+fn tell_gone(
+    rt: &HostRuntime,
+    purge: Purge,
+    before: &Stored,
+    gone: Total,
+    reserved: Total,
+    options: &Options<'_>,
+    out: &mut Output,
+) -> Result<Status> {
     add_total("dropped", gone, out)?;
-    add_total("reserved", after.reserved, out)?;
+    add_total("reserved", reserved, out)?;
     out.print()?;
     if gone.files == 0 {
-        note(
-            rt,
-            options,
-            cause_of(alloc, purge, &before, options)?.as_str(),
-        )?;
+        note_made(rt, options, cause_of(rt.alloc(), purge, before, options))?;
     }
     Ok(Status::Done)
 }
@@ -76,10 +84,8 @@ fn cause_of(
 }
 
 fn find<F: FileSystem>(alloc: Global, files: &mut F, options: &Options<'_>) -> Result<Stored> {
-    match Stored::find(alloc, files, options) {
-        Ok(stored) => Ok(stored),
-        Err(fault) => Err(failure("the log cannot be measured", &fault)),
-    }
+    let found = Stored::find(alloc, files, options);
+    or_failure(found, "the log cannot be measured")
 }
 
 fn purge_and_close<F: FileSystem + ChangedFiles + Drop>(
@@ -89,16 +95,34 @@ fn purge_and_close<F: FileSystem + ChangedFiles + Drop>(
     progress: &mut Progress,
     out: &mut Output,
 ) -> Result<F> {
-    progress.begin("the log is being purged")?;
-    match asked_by(rt.alloc(), &mut engine, purge) {
-        Ok(groups) => add_groups(&groups, out)?,
-        Err(fault) => {
+    match carry_out(rt.alloc(), &mut engine, purge, progress, out) {
+        Ok(None) => close(rt, engine),
+        Ok(Some(fault)) => {
             engine.give_up().tell_refusal(rt)?;
-            return Err(failure("the log cannot be purged", &fault));
+            Err(failure("the log cannot be purged", &fault))
+        }
+        Err(error) => {
+            engine.give_up();
+            Err(error)
         }
     }
+}
+
+// Tells why the engine refused it, if it did.
+fn carry_out<F: FileSystem>(
+    alloc: Global,
+    engine: &mut Engine<F>,
+    purge: Purge,
+    progress: &mut Progress,
+    out: &mut Output,
+) -> Result<Option<Fault>> {
+    progress.begin("the log is being purged")?;
+    match asked_by(alloc, engine, purge) {
+        Ok(groups) => add_groups(&groups, out)?,
+        Err(fault) => return Ok(Some(fault)),
+    }
     progress.begin("the log is being closed")?;
-    close(rt, engine)
+    Ok(None)
 }
 
 // Purges, and answers the groups whose compaction is asked for.

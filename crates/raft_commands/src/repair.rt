@@ -24,7 +24,10 @@ pub(crate) fn repair<R: Threads + Sync, F: FileSystem + ChangedFiles + Drop>(
     };
     match open(rt, threads, files, &request.options) {
         Ok(engine) => {
-            add_taken(&taken, false, out)?;
+            if let Err(error) = add_taken(&taken, false, out) {
+                engine.give_up();
+                return Err(error);
+            }
             close(rt, engine)?;
             Ok(Status::Done)
         }
@@ -44,7 +47,10 @@ fn add_taken(taken: &[Taken], moved: bool, out: &mut Output) -> Result<()> {
         }
         let file = ("file", Word::Bytes(each.path.as_bytes()));
         let bytes = ("bytes", Word::Number(each.len));
-        let kept = each.kept.as_ref().map_or("", |kept| kept.as_str());
+        let kept = match &each.kept {
+            Some(kept) => kept.as_str(),
+            None => "",
+        };
         let kept = ("kept", Word::Bytes(kept.as_bytes()));
         match each.offset {
             Some(offset) => out.named(&[file, ("cut", Word::Number(offset)), bytes, kept])?,

@@ -6,7 +6,7 @@ use crate::stored::Stored;
 use anyhow::Result;
 use raft_command_line::Options;
 use raft_config::Config;
-use raft_console::{Progress, failure, note};
+use raft_console::{Progress, failure, note_made};
 use raft_env::FileSystem;
 use raft_opening::SpareLimits;
 use raft_opening::prefill::prefill;
@@ -31,24 +31,32 @@ pub(crate) fn make_ahead<F: FileSystem + ChangedFiles>(
     files: &mut F,
     options: &Options<'_>,
 ) -> Result<()> {
-    let wanted = match wanted(rt.alloc(), files, options) {
-        Ok(Some(wanted)) => wanted,
-        Ok(None) => return Ok(()),
-        Err(fault) => return Err(failure("the log cannot be measured", &fault)),
-    };
+    match wanted(rt.alloc(), files, options) {
+        Ok(Some(wanted)) => make_all(rt, files, &wanted, options),
+        Ok(None) => Ok(()),
+        Err(fault) => Err(failure("the log cannot be measured", &fault)),
+    }
+}
+
+fn make_all<F: FileSystem + ChangedFiles>(
+    rt: &HostRuntime,
+    files: &mut F,
+    wanted: &Spares,
+    options: &Options<'_>,
+) -> Result<()> {
     let count = wanted.count.saturating_sub(wanted.found) as u64;
     let size = wanted.config.target_file_size.0;
     let bytes = count.saturating_mul(size);
     let text = format!(in rt.alloc();
         "prefill-for-recycle: {count} reserved files of {size} bytes are written ahead, \
         {bytes} bytes in all"
-    )?;
-    note(rt, options, text.as_str())?;
+    );
+    note_made(rt, options, text)?;
     let mut progress = Progress::new(*rt, options.quiet)?;
     for place in wanted.found..wanted.count {
         let done = place.saturating_sub(wanted.found) as u64;
         progress.at("reserved files written ahead", done, count)?;
-        match make_next(rt.alloc(), files, &wanted, place) {
+        match make_next(rt.alloc(), files, wanted, place) {
             Ok(true) => {}
             Ok(false) => return Ok(()),
             Err(fault) => {

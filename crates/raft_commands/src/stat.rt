@@ -5,7 +5,7 @@ use crate::opening::open_image;
 use crate::stored::Total;
 use anyhow::Result;
 use raft_command_line::Options;
-use raft_console::{Output, Status, failure};
+use raft_console::{Output, Status, failure, or_failure};
 use raft_env::FileSystem;
 use raft_inspect::{
     Field, FileUsage, Lines, LogUsage, Outlook, QueueFiles, Word, inspect, measure,
@@ -50,10 +50,9 @@ pub(crate) fn stat<R: Threads + Sync, F: FileSystem + Drop>(
         Err(fault) => return Err(failure("the log cannot be measured", &fault)),
     };
     let engine = open_image(threads, alloc, files, options)?;
-    let held = match held_of(alloc, &engine, &sizes.usage) {
-        Ok(held) => held,
-        Err(fault) => return Err(failure("the log cannot be read", &fault)),
-    };
+    let held = held_of(alloc, &engine, &sizes.usage);
+    engine.give_up();
+    let held = or_failure(held, "the log cannot be read")?;
     match add_all(alloc, &held, &sizes, reserved, options, &mut out.lines) {
         Ok(()) => Ok(Status::Done),
         Err(fault) => Err(failure("the log cannot be told", &fault)),
@@ -120,7 +119,10 @@ fn held_of<F: FileSystem>(
 
 fn live_of(group: u64, usage: &LogUsage) -> u64 {
     match usage.groups.binary_search_by_key(&group, |used| used.group) {
-        Ok(place) => usage.groups.get(place).map_or(0, |used| used.bytes),
+        Ok(place) => match usage.groups.get(place) {
+            Some(used) => used.bytes,
+            None => 0,
+        },
         Err(_) => 0,
     }
 }
@@ -142,8 +144,8 @@ fn add_all(
         lines.document(&totals, &[("by-group", &groups), ("by-file", &files)])?;
         return Ok(());
     }
-    for total in totals {
-        lines.named(&[total])?;
+    for total in &totals {
+        lines.named(&[*total])?;
     }
     add_groups(held, lines)?;
     add_files(&sizes.usage, lines)

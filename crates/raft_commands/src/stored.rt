@@ -79,10 +79,8 @@ impl Stored {
 
     /// How many log files the Append queue has.
     pub fn append_files(&self) -> usize {
-        self.log
-            .iter()
-            .filter(|(path, _)| is_append(path.as_str()))
-            .count()
+        let (append, _) = self.by_queue();
+        append.files as usize
     }
 
     /// The files of the Append queue, and those of the Rewrite queue.

@@ -13,7 +13,7 @@ use crate::spares::make_ahead;
 use crate::waiting::open_folder;
 use anyhow::{Result, anyhow};
 use raft_command_line::{Request, Verb};
-use raft_console::{Output, Progress, Status, bytes_of, failure};
+use raft_console::{Output, Progress, Status, bytes_of, or_failure};
 use raft_env::FileSystem;
 use raft_log_engine::Engine;
 use raft_looks::Folder;
@@ -113,6 +113,8 @@ fn change_log<R: Threads + Sync, F: FileSystem + ChangedFiles + Drop>(
     }
     if request.sync {
         close(rt, engine)?;
+    } else {
+        engine.give_up();
     }
     Ok(Status::Done)
 }
@@ -161,10 +163,8 @@ fn put<F: FileSystem>(
     let key = bytes_of(rt, pair.0, request.options.hex)?;
     let value = bytes_of(rt, pair.1, request.options.hex)?;
     let change = Change::Put(&key, &value);
-    match write(rt.alloc(), engine, group, change, request.sync) {
-        Ok(()) => Ok(()),
-        Err(fault) => Err(failure("the key cannot be put", &fault)),
-    }
+    let written = write(rt.alloc(), engine, group, change, request.sync);
+    or_failure(written, "the key cannot be put")
 }
 
 fn delete<F: FileSystem>(
@@ -175,16 +175,9 @@ fn delete<F: FileSystem>(
     request: &Request<'_>,
 ) -> Result<()> {
     let key = bytes_of(rt, key, request.options.hex)?;
-    match write(
-        rt.alloc(),
-        engine,
-        group,
-        Change::Delete(&key),
-        request.sync,
-    ) {
-        Ok(()) => Ok(()),
-        Err(fault) => Err(failure("the key cannot be deleted", &fault)),
-    }
+    let change = Change::Delete(&key);
+    let written = write(rt.alloc(), engine, group, change, request.sync);
+    or_failure(written, "the key cannot be deleted")
 }
 
 // The values of the words, and behind them those of the lines of a file.
@@ -212,8 +205,6 @@ fn clean<F: FileSystem>(
     group: u64,
     sync: bool,
 ) -> Result<()> {
-    match write(rt.alloc(), engine, group, Change::Clean, sync) {
-        Ok(()) => Ok(()),
-        Err(fault) => Err(failure("the group cannot be cleaned", &fault)),
-    }
+    let written = write(rt.alloc(), engine, group, Change::Clean, sync);
+    or_failure(written, "the group cannot be cleaned")
 }

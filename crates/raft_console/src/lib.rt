@@ -16,12 +16,21 @@ pub use progress::Progress;
 use raft_base::{Fault, IoKind};
 use raft_command_line::Options;
 pub use status::Status;
+use std::alloc::AllocError;
 use std::io;
 pub use streams::take_closed_streams;
 
 /// What couldn't be done, why, and what helps. What couldn't be done and why have room for 120 bytes each.
 pub fn failure(what: &str, fault: &Fault) -> anyhow::Error {
     cause_of(fault).context(what)
+}
+
+/// What a call answers, or what couldn't be done by it, why, and what helps.
+pub fn or_failure<T>(called: Result<T, Fault>, what: &str) -> anyhow::Result<T> {
+    match called {
+        Ok(value) => Ok(value),
+        Err(fault) => Err(failure(what, &fault)),
+    }
 }
 
 fn cause_of(fault: &Fault) -> anyhow::Error {
@@ -45,4 +54,14 @@ pub fn note(rt: &HostRuntime, options: &Options<'_>, text: &str) -> io::Result<(
         return Ok(());
     }
     eprintln!(rt; "raftctl: {text}")
+}
+
+/// Tells a text that was made for it, as `note`.
+pub fn note_made(
+    rt: &HostRuntime,
+    options: &Options<'_>,
+    text: Result<String, AllocError>,
+) -> anyhow::Result<()> {
+    note(rt, options, text?.as_str())?;
+    Ok(())
 }

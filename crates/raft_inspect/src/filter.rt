@@ -64,16 +64,20 @@ impl Filter {
 
     /// Whether an item of a group is told.
     pub fn takes(self, group: u64, kind: ItemKind, index: Option<u64>) -> bool {
-        self.group.is_none_or(|wanted| wanted == group)
-            && self.kind.is_none_or(|wanted| wanted == kind)
-            && self.takes_index(index)
+        let is_group = match self.group {
+            Some(wanted) => wanted == group,
+            None => true,
+        };
+        let is_kind = match self.kind {
+            Some(wanted) => wanted == kind,
+            None => true,
+        };
+        is_group && is_kind && self.takes_index(index)
     }
 
     fn takes_index(self, index: Option<u64>) -> bool {
         match index {
-            Some(index) => {
-                self.from.is_none_or(|from| from <= index) && self.to.is_none_or(|to| index <= to)
-            }
+            Some(index) => self.from.unwrap_or(0) <= index && index <= self.to.unwrap_or(u64::MAX),
             None => self.from.is_none() && self.to.is_none(),
         }
     }

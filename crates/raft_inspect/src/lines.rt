@@ -23,6 +23,8 @@ pub struct Lines {
     bytes: Vec<u8>,
     json: bool,
     hex: bool,
+    /// Whether memory was wanting for what is being added.
+    failed: bool,
 }
 
 impl Lines {
@@ -32,6 +34,7 @@ impl Lines {
             bytes: Vec::new(alloc),
             json,
             hex,
+            failed: false,
         }
     }
 
@@ -52,11 +55,12 @@ impl Lines {
         }
         for (place, (_, word)) in fields.iter().enumerate() {
             if place > 0 {
-                self.byte(b'\t')?;
+                self.byte(b'\t');
             }
-            self.word(*word)?;
+            self.word(*word);
         }
-        self.byte(b'\n')
+        self.byte(b'\n');
+        self.added()
     }
 
     /// Adds a line of these words, each after its name, with spaces between them.
@@ -66,25 +70,42 @@ impl Lines {
         }
         for (place, (name, word)) in fields.iter().enumerate() {
             if place > 0 {
-                self.byte(b' ')?;
+                self.byte(b' ');
             }
-            self.text(name)?;
-            self.byte(b' ')?;
-            self.word(*word)?;
+            self.text(name);
+            self.byte(b' ');
+            self.word(*word);
         }
-        self.byte(b'\n')
+        self.byte(b'\n');
+        self.added()
     }
 
-    fn byte(&mut self, byte: u8) -> Result<(), AllocError> {
-        self.bytes.push(byte)?;
+    // Fails where memory was wanting since the last time.
+    fn added(&mut self) -> Result<(), AllocError> {
+        if self.failed {
+            self.failed = false;
+            return Err(AllocError);
+        }
         Ok(())
     }
 
-    fn text(&mut self, text: &str) -> Result<(), AllocError> {
-        self.bytes.extend_from_slice(text.as_bytes())
+    fn byte(&mut self, byte: u8) {
+        if self.failed || self.bytes.push(byte).is_err() {
+            self.failed = true;
+        }
     }
 
-    fn word(&mut self, word: Word<'_>) -> Result<(), AllocError> {
+    fn text(&mut self, text: &str) {
+        self.add(text.as_bytes());
+    }
+
+    fn add(&mut self, bytes: &[u8]) {
+        if self.failed || self.bytes.extend_from_slice(bytes).is_err() {
+            self.failed = true;
+        }
+    }
+
+    fn word(&mut self, word: Word<'_>) {
         match word {
             Word::Text(text) => self.text(text),
             Word::Number(number) => self.number(number),
@@ -93,50 +114,50 @@ impl Lines {
         }
     }
 
-    fn number(&mut self, number: u64) -> Result<(), AllocError> {
+    fn number(&mut self, number: u64) {
         let mut buffer = Buffer::new();
-        self.text(buffer.format(number))
+        self.text(buffer.format(number));
     }
 
-    fn digits(&mut self, bytes: &[u8]) -> Result<(), AllocError> {
+    fn digits(&mut self, bytes: &[u8]) {
         for byte in bytes {
-            self.pair(*byte)?;
+            self.pair(*byte);
         }
-        Ok(())
     }
 
     // The two digits of a byte.
-    fn pair(&mut self, byte: u8) -> Result<(), AllocError> {
-        self.byte(digit(byte / 16))?;
-        self.byte(digit(byte % 16))
+    fn pair(&mut self, byte: u8) {
+        self.byte(digit(byte / 16));
+        self.byte(digit(byte % 16));
     }
 
     // As Rust's `escape_ascii`.
-    fn spelled(&mut self, bytes: &[u8]) -> Result<(), AllocError> {
-        if bytes.iter().all(|byte| is_plain(*byte)) {
-            return self.bytes.extend_from_slice(bytes);
+    fn spelled(&mut self, bytes: &[u8]) {
+        if are_plain(bytes) {
+            self.add(bytes);
+            return;
         }
         for byte in bytes {
-            self.spell(*byte)?;
+            self.spell(*byte);
         }
-        Ok(())
     }
 
-    fn spell(&mut self, byte: u8) -> Result<(), AllocError> {
+    fn spell(&mut self, byte: u8) {
         if is_plain(byte) {
-            return self.byte(byte);
+            self.byte(byte);
+            return;
         }
         match byte {
             b'\t' => self.text("\\t"),
             b'\n' => self.text("\\n"),
             b'\r' => self.text("\\r"),
             b'"' | b'\'' | b'\\' => {
-                self.byte(b'\\')?;
-                self.byte(byte)
+                self.byte(b'\\');
+                self.byte(byte);
             }
             _ => {
-                self.text("\\x")?;
-                self.pair(byte)
+                self.text("\\x");
+                self.pair(byte);
             }
         }
     }
@@ -147,47 +168,47 @@ impl Lines {
         fields: &[Field<'_>],
         lists: &[(&'static str, &Lines)],
     ) -> Result<(), AllocError> {
-        self.byte(b'{')?;
-        self.members(fields)?;
+        self.byte(b'{');
+        self.members(fields);
         for (name, list) in lists {
-            self.byte(b',')?;
-            self.quoted(name)?;
-            self.text(":[")?;
-            self.joined(list.as_bytes())?;
-            self.byte(b']')?;
+            self.byte(b',');
+            self.quoted(name);
+            self.text(":[");
+            self.joined(list.as_bytes());
+            self.byte(b']');
         }
-        self.text("}\n")
+        self.text("}\n");
+        self.added()
     }
 
     // Lines with a comma between two of them.
-    fn joined(&mut self, lines: &[u8]) -> Result<(), AllocError> {
+    fn joined(&mut self, lines: &[u8]) {
         let lines = lines.strip_suffix(b"\n").unwrap_or(lines);
         for byte in lines {
-            self.byte(if *byte == b'\n' { b',' } else { *byte })?;
+            self.byte(if *byte == b'\n' { b',' } else { *byte });
         }
-        Ok(())
     }
 
     fn object(&mut self, fields: &[Field<'_>]) -> Result<(), AllocError> {
-        self.byte(b'{')?;
-        self.members(fields)?;
-        self.text("}\n")
+        self.byte(b'{');
+        self.members(fields);
+        self.text("}\n");
+        self.added()
     }
 
-    fn members(&mut self, fields: &[Field<'_>]) -> Result<(), AllocError> {
+    fn members(&mut self, fields: &[Field<'_>]) {
         for (place, (name, word)) in fields.iter().enumerate() {
             if place > 0 {
-                self.byte(b',')?;
+                self.byte(b',');
             }
-            self.quoted(name)?;
-            self.byte(b':')?;
-            self.value(*word)?;
+            self.quoted(name);
+            self.byte(b':');
+            self.value(*word);
         }
-        Ok(())
     }
 
     // Bytes that are no text stand in an object of their digits.
-    fn value(&mut self, word: Word<'_>) -> Result<(), AllocError> {
+    fn value(&mut self, word: Word<'_>) {
         match word {
             Word::Text(text) => self.quoted(text),
             Word::Number(number) => self.number(number),
@@ -199,36 +220,45 @@ impl Lines {
         }
     }
 
-    fn digits_object(&mut self, bytes: &[u8]) -> Result<(), AllocError> {
-        self.text("{\"hex\":\"")?;
-        self.digits(bytes)?;
-        self.text("\"}")
+    fn digits_object(&mut self, bytes: &[u8]) {
+        self.text("{\"hex\":\"");
+        self.digits(bytes);
+        self.text("\"}");
     }
 
-    fn quoted(&mut self, text: &str) -> Result<(), AllocError> {
-        self.byte(b'"')?;
+    fn quoted(&mut self, text: &str) {
+        self.byte(b'"');
         for byte in text.as_bytes() {
-            self.quote(*byte)?;
+            self.quote(*byte);
         }
-        self.byte(b'"')
+        self.byte(b'"');
     }
 
     // What JSON has no sign for is spelled by its number.
-    fn quote(&mut self, byte: u8) -> Result<(), AllocError> {
+    fn quote(&mut self, byte: u8) {
         match byte {
             b'\n' => self.text("\\n"),
             b'\t' => self.text("\\t"),
             b'"' | b'\\' => {
-                self.byte(b'\\')?;
-                self.byte(byte)
+                self.byte(b'\\');
+                self.byte(byte);
             }
             _ if byte < b' ' => {
-                self.text("\\u00")?;
-                self.pair(byte)
+                self.text("\\u00");
+                self.pair(byte);
             }
             _ => self.byte(byte),
         }
     }
+}
+
+fn are_plain(bytes: &[u8]) -> bool {
+    for byte in bytes {
+        if !is_plain(*byte) {
+            return false;
+        }
+    }
+    true
 }
 
 // Whether a byte is printed as it is.

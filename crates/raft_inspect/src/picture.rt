@@ -40,11 +40,11 @@ const UNREFERRED: &str = "#e4e4e4";
 pub fn draw(alloc: Global, title: &str, usage: &LogUsage) -> Result<String, AllocError> {
     let groups = largest_groups(alloc, &usage.groups)?;
     let whole = total(&usage.append).max(total(&usage.rewrite));
-    let mut svg = Svg::new(alloc, WIDTH, HEIGHT)?;
-    svg.label(LEFT, 3_000, "start", title)?;
-    add_row(alloc, &mut svg, &usage.append, FIRST_ROW, whole, &groups)?;
-    add_row(alloc, &mut svg, &usage.rewrite, SECOND_ROW, whole, &groups)?;
-    add_legend(alloc, &mut svg, &groups)?;
+    let mut svg = Svg::new(alloc, WIDTH, HEIGHT);
+    svg.label(LEFT, 3_000, "start", title);
+    add_row(alloc, &mut svg, &usage.append, FIRST_ROW, whole, &groups);
+    add_row(alloc, &mut svg, &usage.rewrite, SECOND_ROW, whole, &groups);
+    add_legend(alloc, &mut svg, &groups);
     svg.end()
 }
 
@@ -88,9 +88,9 @@ fn add_row(
     y: u64,
     whole: u64,
     groups: &[GroupUsage],
-) -> Result<(), AllocError> {
-    let title = row_title(alloc, queue)?;
-    svg.label(LEFT, y.saturating_sub(800), "start", title.as_str())?;
+) {
+    let title = svg.made(row_title(alloc, queue));
+    svg.label(LEFT, y.saturating_sub(800), "start", title.as_str());
     let mut begin = 0u64;
     for file in &queue.files {
         let end = begin.saturating_add(file.len);
@@ -101,10 +101,9 @@ fn add_row(
             width: right.saturating_sub(left),
             height: ROW_HEIGHT,
         };
-        add_file(alloc, svg, file, area, groups)?;
+        add_file(alloc, svg, file, area, groups);
         begin = end;
     }
-    Ok(())
 }
 
 // The queue, its span of numbers, its bytes, and how many of them are referred to.
@@ -123,24 +122,17 @@ fn row_title(alloc: Global, queue: &QueueUsage) -> Result<String, AllocError> {
     )
 }
 
-fn add_file(
-    alloc: Global,
-    svg: &mut Svg,
-    file: &FileUsage,
-    area: Area,
-    groups: &[GroupUsage],
-) -> Result<(), AllocError> {
-    let told = file_text(alloc, file)?;
-    svg.rect(area, UNREFERRED, told.as_str())?;
-    add_groups(alloc, svg, file, area, groups)?;
-    svg.frame(area)?;
+fn add_file(alloc: Global, svg: &mut Svg, file: &FileUsage, area: Area, groups: &[GroupUsage]) {
+    let told = svg.made(file_text(alloc, file));
+    svg.rect(area, UNREFERRED, told.as_str());
+    add_groups(alloc, svg, file, area, groups);
+    svg.frame(area);
     if area.width >= LABEL_WIDTH {
-        let number = format!(in alloc; "{}", file.id.seq)?;
+        let number = svg.made(format!(in alloc; "{}", file.id.seq));
         let middle = area.x.saturating_add(area.width / 2);
         let below = area.y.saturating_add(area.height).saturating_add(1_600);
-        svg.label(middle, below, "middle", number.as_str())?;
+        svg.label(middle, below, "middle", number.as_str());
     }
-    Ok(())
 }
 
 fn file_text(alloc: Global, file: &FileUsage) -> Result<String, AllocError> {
@@ -152,13 +144,7 @@ fn file_text(alloc: Global, file: &FileUsage) -> Result<String, AllocError> {
 }
 
 // What is referred to stands from the bottom up, group by group.
-fn add_groups(
-    alloc: Global,
-    svg: &mut Svg,
-    file: &FileUsage,
-    area: Area,
-    groups: &[GroupUsage],
-) -> Result<(), AllocError> {
+fn add_groups(alloc: Global, svg: &mut Svg, file: &FileUsage, area: Area, groups: &[GroupUsage]) {
     let bottom = area.y.saturating_add(area.height);
     let mut below = 0u64;
     for (group, bytes) in &file.groups {
@@ -174,24 +160,23 @@ fn add_groups(
             height: high.saturating_sub(low),
         };
         if part.height > 0 {
-            let size = size_text(alloc, *bytes)?;
-            let told = format!(in alloc; "group {group}: {size}")?;
-            svg.rect(part, color_of(groups, *group), told.as_str())?;
+            let size = svg.made(size_text(alloc, *bytes));
+            let told = svg.made(format!(in alloc; "group {group}: {size}"));
+            svg.rect(part, color_of(groups, *group), told.as_str());
         }
         below = above;
     }
-    Ok(())
 }
 
-fn add_legend(alloc: Global, svg: &mut Svg, groups: &[GroupUsage]) -> Result<(), AllocError> {
+fn add_legend(alloc: Global, svg: &mut Svg, groups: &[GroupUsage]) {
     let mut place = 0u64;
     for (group, color) in groups.iter().zip(&COLORS) {
-        let text = group_text(alloc, group)?;
-        add_key(svg, place, color, text.as_str())?;
+        let text = svg.made(group_text(alloc, group));
+        add_key(svg, place, color, text.as_str());
         place = place.saturating_add(1);
     }
-    add_key(svg, 10, OTHERS, "other groups")?;
-    add_key(svg, 11, UNREFERRED, "nothing refers to it")
+    add_key(svg, 10, OTHERS, "other groups");
+    add_key(svg, 11, UNREFERRED, "nothing refers to it");
 }
 
 fn group_text(alloc: Global, usage: &GroupUsage) -> Result<String, AllocError> {
@@ -205,7 +190,7 @@ fn group_text(alloc: Global, usage: &GroupUsage) -> Result<String, AllocError> {
 }
 
 // Four signs stand in a row of the legend.
-fn add_key(svg: &mut Svg, place: u64, color: &str, text: &str) -> Result<(), AllocError> {
+fn add_key(svg: &mut Svg, place: u64, color: &str, text: &str) {
     let x = (place % 4).saturating_mul(28_000).saturating_add(LEFT);
     let y = (place / 4).saturating_mul(2_600).saturating_add(LEGEND);
     let area = Area {
@@ -214,11 +199,11 @@ fn add_key(svg: &mut Svg, place: u64, color: &str, text: &str) -> Result<(), All
         width: 1_600,
         height: 1_600,
     };
-    svg.rect(area, color, text)?;
+    svg.rect(area, color, text);
     svg.label(
         x.saturating_add(2_400),
         y.saturating_add(1_300),
         "start",
         text,
-    )
+    );
 }

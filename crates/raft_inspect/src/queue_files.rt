@@ -124,8 +124,10 @@ impl QueueFiles {
         let mut passed = 0;
         let mut before: Option<u64> = None;
         for (place, file) in files.iter().enumerate() {
-            if before.is_some_and(|before| before.checked_add(1) != Some(file.id.seq)) {
-                passed = place;
+            if let Some(before) = before {
+                if before.checked_add(1) != Some(file.id.seq) {
+                    passed = place;
+                }
             }
             before = Some(file.id.seq);
         }

@@ -3,11 +3,13 @@ ghost use Rattle.std.specs.Prelude.{◌≤◌};
 
 use std::alloc::{AllocError, Global};
 
-/// A picture that is being written. Lengths are hundredths of a pixel.
+/// A picture that is being written. Lengths are hundredths of a pixel. Where memory is wanting
+/// something is left out, and `end` fails.
 #[derive(Drop)]
 pub(crate) struct Svg {
     alloc: Global,
     text: String,
+    failed: bool,
 }
 
 /// A rectangle by its corner, its width and its height.
@@ -21,77 +23,109 @@ pub(crate) struct Area {
 
 impl Svg {
     /// A picture of a size in pixels.
-    pub(crate) fn new(alloc: Global, width: u64, height: u64) -> Result<Svg, AllocError> {
-        let text = format!(in alloc;
+    pub(crate) fn new(alloc: Global, width: u64, height: u64) -> Svg {
+        let mut svg = Svg {
+            alloc,
+            text: String::new(alloc),
+            failed: false,
+        };
+        let front = format!(in alloc;
             "<svg xmlns=\"http://www.w3.org/2000/svg\" width=\"{width}\" height=\"{height}\" viewBox=\"0 0 {width} {height}\" font-family=\"sans-serif\" font-size=\"12\">\n<rect width=\"{width}\" height=\"{height}\" fill=\"#ffffff\"/>\n"
-        )?;
-        Ok(Svg { alloc, text })
+        );
+        svg.add_made(front);
+        svg
     }
 
     /// The whole text of the picture.
     pub(crate) fn end(mut self) -> Result<String, AllocError> {
-        self.text.push_str("</svg>\n")?;
+        self.add("</svg>\n");
+        if self.failed {
+            return Err(AllocError);
+        }
         Ok(self.text)
     }
 
+    /// A text that was made for the picture.
+    pub(crate) fn made(&mut self, text: Result<String, AllocError>) -> String {
+        match text {
+            Ok(text) => text,
+            Err(_) => {
+                self.failed = true;
+                String::new(self.alloc)
+            }
+        }
+    }
+
     /// A filled rectangle; a pointer that rests on it is told a text.
-    pub(crate) fn rect(&mut self, area: Area, fill: &str, told: &str) -> Result<(), AllocError> {
-        self.text.push_str("<rect")?;
-        self.length("x", area.x)?;
-        self.length("y", area.y)?;
-        self.length("width", area.width)?;
-        self.length("height", area.height)?;
-        let end = format!(in self.alloc; " fill=\"{fill}\"><title>")?;
-        self.text.push_str(end.as_str())?;
-        self.escaped(told)?;
-        self.text.push_str("</title></rect>\n")
+    pub(crate) fn rect(&mut self, area: Area, fill: &str, told: &str) {
+        self.add("<rect");
+        self.length("x", area.x);
+        self.length("y", area.y);
+        self.length("width", area.width);
+        self.length("height", area.height);
+        self.add(" fill=\"");
+        self.add(fill);
+        self.add("\"><title>");
+        self.escaped(told);
+        self.add("</title></rect>\n");
     }
 
     /// The frame of a rectangle.
-    pub(crate) fn frame(&mut self, area: Area) -> Result<(), AllocError> {
-        self.text.push_str("<rect")?;
-        self.length("x", area.x)?;
-        self.length("y", area.y)?;
-        self.length("width", area.width)?;
-        self.length("height", area.height)?;
-        self.text.push_str(" fill=\"none\" stroke=\"#555555\" stroke-width=\"0.5\"/>\n")
+    pub(crate) fn frame(&mut self, area: Area) {
+        self.add("<rect");
+        self.length("x", area.x);
+        self.length("y", area.y);
+        self.length("width", area.width);
+        self.length("height", area.height);
+        self.add(" fill=\"none\" stroke=\"#555555\" stroke-width=\"0.5\"/>\n");
     }
 
     /// A text that begins at a place; `anchor` is `start`, `middle` or `end`.
-    pub(crate) fn label(
-        &mut self,
-        x: u64,
-        y: u64,
-        anchor: &str,
-        text: &str,
-    ) -> Result<(), AllocError> {
-        self.text.push_str("<text")?;
-        self.length("x", x)?;
-        self.length("y", y)?;
-        let end = format!(in self.alloc; " text-anchor=\"{anchor}\">")?;
-        self.text.push_str(end.as_str())?;
-        self.escaped(text)?;
-        self.text.push_str("</text>\n")
+    pub(crate) fn label(&mut self, x: u64, y: u64, anchor: &str, text: &str) {
+        self.add("<text");
+        self.length("x", x);
+        self.length("y", y);
+        self.add(" text-anchor=\"");
+        self.add(anchor);
+        self.add("\">");
+        self.escaped(text);
+        self.add("</text>\n");
     }
 
-    fn length(&mut self, name: &str, value: u64) -> Result<(), AllocError> {
+    fn length(&mut self, name: &str, value: u64) {
         let (whole, part) = (value / 100, value % 100);
-        let text = format!(in self.alloc; " {name}=\"{whole}.{part:02}\"")?;
-        self.text.push_str(text.as_str())
+        let text = format!(in self.alloc; " {name}=\"{whole}.{part:02}\"");
+        self.add_made(text);
     }
 
-    fn escaped(&mut self, text: &str) -> Result<(), AllocError> {
+    fn escaped(&mut self, text: &str) {
         for c in text.chars() {
             match c {
-                '<' => self.text.push_str("&lt;")?,
-                '>' => self.text.push_str("&gt;")?,
-                '&' => self.text.push_str("&amp;")?,
-                '"' => self.text.push_str("&quot;")?,
-                _ if c < ' ' => self.text.push('?')?,
-                _ => self.text.push(c)?,
+                '<' => self.add("&lt;"),
+                '>' => self.add("&gt;"),
+                '&' => self.add("&amp;"),
+                '"' => self.add("&quot;"),
+                _ if c < ' ' => self.add("?"),
+                _ => self.add_char(c),
             }
         }
-        Ok(())
+    }
+
+    fn add_made(&mut self, text: Result<String, AllocError>) {
+        let text = self.made(text);
+        self.add(text.as_str());
+    }
+
+    fn add(&mut self, text: &str) {
+        if self.text.push_str(text).is_err() {
+            self.failed = true;
+        }
+    }
+
+    fn add_char(&mut self, c: char) {
+        if self.text.push(c).is_err() {
+            self.failed = true;
+        }
     }
 }
 

@@ -64,14 +64,14 @@ fn add_check(
         left_out.add_line(&mut out.lines)?;
     }
     let mut status = Status::Done;
-    for each in [
+    for each in &[
         RecoveryMode::AbsoluteConsistency,
         RecoveryMode::TolerateTailCorruption,
         RecoveryMode::TolerateAnyCorruption,
     ] {
-        let outlook = outlook_of(alloc, found, each)?;
-        add_outlook(each, outlook, out)?;
-        if each == mode {
+        let outlook = outlook_of(alloc, found, *each)?;
+        add_outlook(*each, outlook, out)?;
+        if *each == mode {
             status = status_of(outlook, !found.left_out.is_empty());
         }
     }

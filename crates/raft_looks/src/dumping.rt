@@ -3,10 +3,11 @@
 use crate::folder::Folder;
 use crate::source::FileSource;
 use anyhow::{Result, bail};
-use raft_console::{Output, Progress, Status, failure};
+use raft_console::{Output, Progress, Status, failure, or_failure};
 use raft_dump::{LogFile, LogItemReader, RecordPlace, build_file_reader};
+use raft_env::FileSystem;
+use raft_files::LogFileReader;
 use raft_inspect::{Filter, add_fault, add_item};
-use raft_memory::MemoryFileSystem;
 use raft_parts::LogFileParts;
 use raft_records::{Fault, LogQueue};
 use std::alloc::Global;
@@ -41,9 +42,13 @@ fn chosen(alloc: Global, folder: &Folder, name: Option<&str>) -> Result<Vec<LogF
     if let Some(copy) = folder.copy_named(name.unwrap_or(""))? {
         chosen.push(copy)?;
     }
-    for queue in [LogQueue::Rewrite, LogQueue::Append] {
-        for file in folder.files_of(queue)? {
-            if name.is_none_or(|name| file.path.as_str() == name) {
+    for queue in &[LogQueue::Rewrite, LogQueue::Append] {
+        for file in folder.files_of(*queue)? {
+            let is_chosen = match name {
+                Some(name) => file.path.as_str() == name,
+                None => true,
+            };
+            if is_chosen {
                 chosen.push(file)?;
             }
         }
@@ -63,19 +68,26 @@ fn dump_file(
     let Some(mut source) = folder.source_of(file, progress)? else {
         return Ok(true);
     };
+    dump_source(alloc, file, &mut source, filter, out)
+}
+
+fn dump_source(
+    alloc: Global,
+    file: &LogFile,
+    source: &mut FileSource<'_>,
+    filter: Filter,
+    out: &mut Output,
+) -> Result<bool> {
     let size = source.size()?;
-    let mut parts = match LogFileParts::open(alloc, size, &mut source) {
+    let mut parts = match LogFileParts::open(alloc, size, source) {
         Ok(parts) => parts,
         Err(fault) => return Err(source.failure(&fault)),
     };
-    let stop = match dump_parts(alloc, file, &mut source, &mut parts, filter, out)? {
-        Some(stop) => stop,
-        None => return Ok(true),
+    let Some((place, fault)) = dump_parts(alloc, file, source, &mut parts, filter, out)? else {
+        return Ok(true);
     };
-    let (place, fault) = stop;
-    if let Err(fault) = add_fault(Some(place), &fault, &mut out.lines) {
-        return Err(failure(file.path.as_str(), &fault));
-    }
+    let added = add_fault(Some(place), &fault, &mut out.lines);
+    or_failure(added, file.path.as_str())?;
     Ok(false)
 }
 
@@ -89,28 +101,43 @@ fn dump_parts(
     out: &mut Output,
 ) -> Result<Option<(RecordPlace, Fault)>> {
     for _ in 0..u64::MAX {
-        let mut image = match parts.next_image(alloc, file.path.as_str(), source) {
-            Ok(image) => image,
-            Err(fault) => return Err(source.failure(&fault)),
-        };
-        let stop = dump_part(alloc, &mut image, file, parts, filter, out)?;
-        let end = match &stop {
-            Some((place, _)) => place.offset,
-            None => usize::MAX,
-        };
-        let offset = parts.place_of(end);
-        if parts.go_on(end) {
-            continue;
+        match dump_next(alloc, file, source, parts, filter, out)? {
+            Some((place, fault)) => {
+                let there = place_in_file(parts, place);
+                if !parts.go_on(place.offset) {
+                    return Ok(Some((there, fault)));
+                }
+            }
+            None => {
+                if !parts.go_on(usize::MAX) {
+                    break;
+                }
+            }
         }
-        return Ok(stop.map(|(place, fault)| (
-            RecordPlace {
-                id: place.id,
-                offset,
-            },
-            fault,
-        )));
     }
     Ok(None)
+}
+
+fn dump_next(
+    alloc: Global,
+    file: &LogFile,
+    source: &mut FileSource<'_>,
+    parts: &mut LogFileParts,
+    filter: Filter,
+    out: &mut Output,
+) -> Result<Option<(RecordPlace, Fault)>> {
+    match parts.next_image(alloc, file.path.as_str(), source) {
+        Ok(mut image) => dump_part(alloc, &mut image, file, parts, filter, out),
+        Err(fault) => Err(source.failure(&fault)),
+    }
+}
+
+/// A part of a file, by the file's path, and which of its items are printed.
+#[derive(Clone, Copy)]
+struct Part<'a> {
+    path: &'a str,
+    parts: &'a LogFileParts,
+    filter: Filter,
 }
 
 // Where a record of a part stands in the file.
@@ -122,9 +149,9 @@ fn place_in_file(parts: &LogFileParts, place: RecordPlace) -> RecordPlace {
 }
 
 // Prints the items of a part, and says where and why the reading stops before its end.
-fn dump_part(
+fn dump_part<F: FileSystem>(
     alloc: Global,
-    image: &mut MemoryFileSystem,
+    image: &mut F,
     file: &LogFile,
     parts: &LogFileParts,
     filter: Filter,
@@ -140,7 +167,24 @@ fn dump_part(
         path: file.path.clone()?,
     };
     let mut items = LogItemReader::new(alloc, vec![in alloc; named]?);
-    let mut stop = None;
+    let part = Part {
+        path,
+        parts,
+        filter,
+    };
+    let stop = dump_items(alloc, image, &mut reader, &mut items, part, out);
+    reader.end(image);
+    stop
+}
+
+fn dump_items<F: FileSystem>(
+    alloc: Global,
+    image: &mut F,
+    reader: &mut LogFileReader<F>,
+    items: &mut LogItemReader<F>,
+    part: Part<'_>,
+    out: &mut Output,
+) -> Result<Option<(RecordPlace, Fault)>> {
     for _ in 0..u64::MAX {
         let (Some(next), Some(place)) = (items.next(image), items.place()) else {
             break;
@@ -148,26 +192,21 @@ fn dump_part(
         let item = match next {
             Ok(item) => item,
             // No damage of the file.
-            Err(Fault::Memory) => return Err(failure(path, &Fault::Memory)),
-            Err(fault) => {
-                stop = Some((place, fault));
-                break;
-            }
+            Err(Fault::Memory) => return Err(failure(part.path, &Fault::Memory)),
+            Err(fault) => return Ok(Some((place, fault))),
         };
-        let there = place_in_file(parts, place);
-        if let Err(fault) = add_item(
+        let there = place_in_file(part.parts, place);
+        let added = add_item(
             alloc,
             image,
-            &mut reader,
+            reader,
             Some(there),
             &item,
-            filter,
+            part.filter,
             &mut out.lines,
-        ) {
-            return Err(failure(path, &fault));
-        }
+        );
+        or_failure(added, part.path)?;
         out.print_if_full()?;
     }
-    reader.end(image);
-    Ok(stop)
+    Ok(None)
 }

@@ -26,7 +26,6 @@ const PART_LEN: usize = 64 * 1024 * 1024;
 const NAME_LEN: usize = 24;
 
 /// A look at a folder, which can't change it, and the names of its files.
-#[derive(Drop)]
 pub struct Folder {
     rt: HostRuntime,
     alloc: Global,
@@ -39,6 +38,22 @@ pub struct Folder {
     pub reserved: Vec<ReservedFile>,
     /// The names of files that are no log's.
     pub others: Vec<String>,
+}
+
+// One call in a proof that drops it; derived, it would be one of each field (docs/DECISIONS.md).
+impl Drop for Folder {
+    fn drop(self) {
+        let Folder {
+            rt: _,
+            alloc: _,
+            path: _path,
+            view: _view,
+            spill: _spill,
+            files: _files,
+            reserved: _reserved,
+            others: _others,
+        } = self;
+    }
 }
 
 /// A reserved file's path, and how many bytes it has.
@@ -66,12 +81,17 @@ impl Folder {
             reserved: Vec::new(alloc),
             others: Vec::new(alloc),
         };
-        folder.add("")?;
-        if let Some(spill) = options.spill {
-            folder.add_second(spill)?;
-            folder.spill = Some(String::from_str(alloc, spill)?);
-        }
+        folder.add_all(options.spill)?;
         Ok(folder)
+    }
+
+    fn add_all(&mut self, spill: Option<&str>) -> Result<()> {
+        self.add("")?;
+        if let Some(spill) = spill {
+            self.add_second(spill)?;
+            self.spill = Some(String::from_str(self.alloc, spill)?);
+        }
+        Ok(())
     }
 
     fn add(&mut self, folder: &str) -> Result<()> {
@@ -108,11 +128,15 @@ impl Folder {
 
     /// What of the log isn't read: folders right below with files of it, or the Rewrite queue, where it is gone.
     pub fn left_out(&self) -> Result<Vec<LeftOut>> {
+        let spill = match &self.spill {
+            Some(spill) => Some(spill.as_str()),
+            None => None,
+        };
         ReadFiles {
             rt: self.rt,
             view: &self.view,
             path: self.path.as_str(),
-            spill: self.spill.as_ref().map(|spill| spill.as_str()),
+            spill,
             files: &self.files,
         }
         .left_out()
@@ -225,9 +249,9 @@ impl Folder {
     /// fails where both folders have one of a number.
     pub fn image_in_one_folder(&self, progress: &mut Progress) -> Result<Option<MemoryFileSystem>> {
         let mut files = Vec::new(self.alloc);
-        for queue in [LogQueue::Rewrite, LogQueue::Append] {
+        for queue in &[LogQueue::Rewrite, LogQueue::Append] {
             let mut before = None;
-            for file in self.files_of(queue)? {
+            for file in self.files_of(*queue)? {
                 if before == Some(file.id.seq) {
                     bail!("{}: the other folder has this file too", file.path);
                 }
@@ -251,16 +275,25 @@ impl Folder {
         let Some((own, _)) = name.split_at_checked(NAME_LEN) else {
             return Ok(None);
         };
-        if !self.others.iter().any(|other| other.as_str() == name) {
+        if !self.has_other(name) {
             return Ok(None);
         }
         let path = String::from_str(self.alloc, name)?;
-        for queue in [LogQueue::Rewrite, LogQueue::Append] {
-            if let Some(file) = log_file(self.alloc, "", own, queue)? {
+        for queue in &[LogQueue::Rewrite, LogQueue::Append] {
+            if let Some(file) = log_file(self.alloc, "", own, *queue)? {
                 return Ok(Some(LogFile { id: file.id, path }));
             }
         }
         Ok(None)
+    }
+
+    fn has_other(&self, name: &str) -> bool {
+        for other in &self.others {
+            if other.as_str() == name {
+                return true;
+            }
+        }
+        false
     }
 
     /// The log files of a queue, by number.
@@ -313,14 +346,9 @@ impl Folder {
     }
 
     fn check(&self, file: &LogFile, progress: &mut Progress) -> Result<Option<FileCheck>> {
-        let Some(mut source) = self.source_of(file, progress)? else {
-            return Ok(None);
-        };
-        let size = source.size()?;
-        match check_parts(self.alloc, file, size, &mut source) {
-            Ok(check) => Ok(Some(check)),
-            Err(_) if source.is_gone() => Ok(None),
-            Err(fault) => Err(source.failure(&fault)),
+        match self.source_of(file, progress)? {
+            Some(mut source) => check_source(self.alloc, file, &mut source),
+            None => Ok(None),
         }
     }
 
@@ -361,6 +389,19 @@ impl Folder {
             },
             RecoveryMode::TolerateAnyCorruption => Ok(files),
         }
+    }
+}
+
+fn check_source(
+    alloc: Global,
+    file: &LogFile,
+    source: &mut FileSource<'_>,
+) -> Result<Option<FileCheck>> {
+    let size = source.size()?;
+    match check_parts(alloc, file, size, source) {
+        Ok(check) => Ok(Some(check)),
+        Err(_) if source.is_gone() => Ok(None),
+        Err(fault) => Err(source.failure(&fault)),
     }
 }
 

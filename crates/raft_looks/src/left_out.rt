@@ -77,16 +77,17 @@ impl ReadFiles<'_> {
 
     // The number of the Append queue's first file, where files before it were dropped and the Rewrite queue has none.
     fn first_without_rewrite(&self) -> Option<u64> {
-        let mut first = None;
+        let mut first = u64::MAX;
         for file in self.files {
             match file.id.queue {
                 LogQueue::Rewrite => return None,
-                LogQueue::Append => {
-                    first = Some(first.map_or(file.id.seq, |least| file.id.seq.min(least)));
-                }
+                LogQueue::Append => first = file.id.seq.min(first),
             }
         }
-        first.filter(|first| *first > 1)
+        if self.files.is_empty() || first <= 1 {
+            return None;
+        }
+        Some(first)
     }
 
     fn add_entry(&self, entry: &DirEntry, found: &mut Vec<LeftOut>) -> Result<()> {
@@ -116,7 +117,8 @@ impl ReadFiles<'_> {
             Ok(there) => there,
             Err(fault) => bail!("{fault}"),
         };
-        if self.has_one_of(&there) || !self.is_gone_on(&there)? {
+        // No number is in both.
+        if has_one_of(self.files, &there) || !self.is_gone_on(&there)? {
             return Ok(());
         }
         let mut bytes = 0u64;
@@ -127,21 +129,15 @@ impl ReadFiles<'_> {
         Ok(found.push(LeftOut::Folder(folder, there.len() as u64, bytes))?)
     }
 
-    // Whether a number is in both.
-    fn has_one_of(&self, there: &[LogFile]) -> bool {
-        there.iter().any(|other| is_among(self.files, other))
-    }
-
     // Whether an opening that read these files too would keep one of them.
     fn is_gone_on(&self, there: &[LogFile]) -> Result<bool, AllocError> {
-        for queue in [LogQueue::Append, LogQueue::Rewrite] {
+        for queue in &[LogQueue::Append, LogQueue::Rewrite] {
             let mut all = Vec::new(self.rt.alloc());
-            add_of(queue, self.files, &mut all)?;
-            add_of(queue, there, &mut all)?;
+            add_of(*queue, self.files, &mut all)?;
+            add_of(*queue, there, &mut all)?;
             QueueFiles::sort(&mut all)?;
             let passed = QueueFiles::passed_by_number(&all);
-            let kept = all.get(passed..).unwrap_or(&[]);
-            if kept.iter().any(|file| is_among(there, file)) {
+            if has_one_of(there, all.get(passed..).unwrap_or(&[])) {
                 return Ok(true);
             }
         }
@@ -149,11 +145,24 @@ impl ReadFiles<'_> {
     }
 }
 
+// Whether one of the others is among the files, by its number.
+fn has_one_of(files: &[LogFile], others: &[LogFile]) -> bool {
+    for other in others {
+        if is_among(files, other) {
+            return true;
+        }
+    }
+    false
+}
+
 fn is_among(files: &[LogFile], file: &LogFile) -> bool {
     let id = file.id;
-    files
-        .iter()
-        .any(|each| each.id.queue == id.queue && each.id.seq == id.seq)
+    for each in files {
+        if each.id == id {
+            return true;
+        }
+    }
+    false
 }
 
 fn add_of(queue: LogQueue, files: &[LogFile], all: &mut Vec<LogFile>) -> Result<(), AllocError> {

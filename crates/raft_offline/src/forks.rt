@@ -6,7 +6,7 @@ use anyhow::{Result, anyhow};
 use raft_command_line::Request;
 use raft_commands::{config, note_left_out};
 use raft_config::Config;
-use raft_console::{Output, Progress, Status, failure};
+use raft_console::{Output, Progress, Status, failure, or_failure};
 use raft_disk::{DiskFileSystem, FolderView, OpenFault, image_of};
 use raft_env::{FileSystem, FsFault};
 use raft_fork::FORK_MARK;
@@ -29,25 +29,43 @@ pub(crate) const BEFORE_NAME: &str = "target/";
 /// open, and as `raft_fork::fork` does; the copies made so far then stay, with the mark. Recycling
 /// is no hindrance, since no engine runs.
 pub fn fork_folder(rt: HostRuntime, request: &Request<'_>, target: &str) -> Result<Status> {
-    let source = match FolderView::open(rt, request.folder) {
-        Ok(source) => source,
-        Err(fault) => return Err(told(&rt, &fault)),
-    };
+    match FolderView::open(rt, request.folder) {
+        Ok(source) => fork_source(rt, &source, request, target),
+        Err(fault) => Err(told(&rt, &fault)),
+    }
+}
+
+fn fork_source(
+    rt: HostRuntime,
+    source: &FolderView,
+    request: &Request<'_>,
+    target: &str,
+) -> Result<Status> {
     if source.is_in_use() {
         return Err(anyhow!("it is open already").context(request.folder));
     }
     let settings = config(rt.alloc(), &request.options)?;
-    let copies = plan(rt, &source, target, &settings)?;
-    tell_passed(&rt, &source, &settings, &copies)?;
+    let copies = plan(rt, source, target, &settings)?;
+    tell_passed(&rt, source, &settings, &copies)?;
     let left_out = Folder::open(rt, request.folder, &request.options)?.left_out()?;
     note_left_out(&rt, &left_out, request)?;
-    let mut files = match DiskFileSystem::open_with(rt, target, None) {
-        Ok(files) => files,
-        Err(fault) => return Err(told(&rt, &fault)),
-    };
-    let copied = copy_all(rt, &source, &copies, &mut files, request);
+    match DiskFileSystem::open_with(rt, target, None) {
+        Ok(mut files) => copy_or_tell(rt, source, &copies, &mut files, request),
+        Err(fault) => Err(told(&rt, &fault)),
+    }
+}
+
+// Copies, and tells what the system refused where that fails.
+fn copy_or_tell(
+    rt: HostRuntime,
+    source: &FolderView,
+    copies: &[Copy],
+    files: &mut DiskFileSystem,
+    request: &Request<'_>,
+) -> Result<Status> {
+    let copied = copy_all(rt, source, copies, files, request);
     if copied.is_err() {
-        tell_refusal(&rt, &files)?;
+        tell_refusal(&rt, files)?;
     }
     copied
 }
@@ -68,10 +86,10 @@ fn plan(rt: HostRuntime, source: &FolderView, target: &str, config: &Config) -> 
         Ok(image) => image,
         Err(fault) => return Err(told(&rt, &fault)),
     };
-    match planned(alloc, config, &mut image) {
-        Ok(copies) => Ok(copies),
-        Err(fault) => Err(failure("the log cannot be copied", &fault)),
-    }
+    or_failure(
+        planned(alloc, config, &mut image),
+        "the log cannot be copied",
+    )
 }
 
 type Named = (String, Vec<u8>);

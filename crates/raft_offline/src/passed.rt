@@ -55,7 +55,12 @@ fn add_folder(
 }
 
 fn is_copied(path: &String, copies: &[Copy]) -> bool {
-    copies.iter().any(|copy| copy.from == *path)
+    for copy in copies {
+        if copy.from == *path {
+            return true;
+        }
+    }
+    false
 }
 
 fn add_file(source: &FolderView, path: &str, passed: &mut Passed) -> Result<()> {

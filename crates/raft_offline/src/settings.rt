@@ -4,7 +4,7 @@ use anyhow::{Result, anyhow, bail};
 use raft_command_line::{Options, Request};
 use raft_commands::config;
 use raft_config::Config;
-use raft_console::{Status, note, print_bytes};
+use raft_console::{Status, note_made, print_bytes};
 use raft_records::{Fault, Fresh};
 use raft_settings::{read, write};
 use std::alloc::{AllocError, Global};
@@ -73,8 +73,8 @@ fn is_missing(kind: ErrorKind) -> bool {
 fn settings_in(rt: &HostRuntime, path: &str, request: &Request<'_>) -> Result<Config> {
     let text = text_in(rt, path)?;
     for key in &unknown_keys(rt.alloc(), text.as_str())? {
-        let told = format!(in rt.alloc(); "{path}: `{key}` is no setting, and passed over")?;
-        note(rt, &request.options, told.as_str())?;
+        let told = format!(in rt.alloc(); "{path}: `{key}` is no setting, and passed over");
+        note_made(rt, &request.options, told)?;
     }
     match read(rt.alloc(), text.as_str()) {
         Ok(config) => Ok(config),
@@ -105,29 +105,40 @@ fn unknown_keys(alloc: Global, text: &str) -> Result<Vec<String>, AllocError> {
         return Ok(unknown);
     };
     for key in table.keys() {
-        if !KEYS.iter().any(|(known, _)| key.as_str() == *known) {
+        if wanted_of(key.as_str()).is_none() {
             unknown.push(key.clone()?)?;
         }
     }
     Ok(unknown)
 }
 
+// What a setting may be.
+fn wanted_of(key: &str) -> Option<&'static str> {
+    for (known, wanted) in &KEYS {
+        if *known == key {
+            return Some(*wanted);
+        }
+    }
+    None
+}
+
 // What can't be read of a text: the line, and what may stand there.
 fn misread(alloc: Global, path: &str, text: &str, reason: &str) -> anyhow::Error {
-    if let Some((key, wanted)) = KEYS.iter().find(|(key, _)| *key == reason) {
-        return match line_of_key(text, key) {
+    if let Some(wanted) = wanted_of(reason) {
+        let cause = anyhow!("{reason} is {wanted}");
+        return match line_of_key(text, reason) {
             Some((number, line)) => {
-                anyhow!("{key} is {wanted}").context(anyhow!(
-                    "{path}: line {number}: `{}`",
-                    line.trim()
-                ))
+                cause.context(anyhow!("{path}: line {number}: `{}`", line.trim()))
             }
-            None => anyhow!("{key} is {wanted}").context(path),
+            None => cause.context(path),
         };
     }
     match toml::table_from_str(alloc, text) {
         Err(e) => {
-            let at = e.span().map_or(0, |span| span.start);
+            let at = match e.span() {
+                Some(span) => span.start,
+                None => 0,
+            };
             anyhow!("no TOML: {}", e.message()).context(anyhow!(
                 "{path}: line {}",
                 line_at(text, at)
@@ -152,9 +163,13 @@ fn line_of_key<'a>(text: &'a str, key: &str) -> Option<(usize, &'a str)> {
 
 // The number of the line of a place in bytes.
 fn line_at(text: &str, at: usize) -> usize {
-    let front = text.as_bytes().get(..at).unwrap_or(&[]);
-    let ends = front.iter().filter(|byte| **byte == b'\n').count();
-    ends.saturating_add(1)
+    let mut number = 1usize;
+    for byte in text.as_bytes().get(..at).unwrap_or(&[]) {
+        if *byte == b'\n' {
+            number = number.saturating_add(1);
+        }
+    }
+    number
 }
 
 /// Prints the settings in force. It fails where they contradict one another.
