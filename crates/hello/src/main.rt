@@ -13,9 +13,9 @@ fn main(rt: HostRuntime) -> Result<(), anyhow::Error> {
 }
 
 fn put<F: FileSystem + Drop>(alloc: Global, files: F) -> Result<(), Fault> {
-    let mut engine = Engine::open_in_order(alloc, Config::fresh(alloc), files)?;
     let mut batch = LogBatch::new(alloc);
     batch.put(1, b"state".to_vec(alloc)?, b"follower".to_vec(alloc)?)?;
+    let mut engine = Engine::open_in_order(alloc, Config::fresh(alloc), files)?;
     engine.write(&mut batch, true)?;
     engine.close()?;
     Ok(())
@@ -23,6 +23,7 @@ fn put<F: FileSystem + Drop>(alloc: Global, files: F) -> Result<(), Fault> {
 
 fn has<F: FileSystem + Drop>(alloc: Global, files: F) -> Result<bool, Fault> {
     let engine = Engine::open_in_order(alloc, Config::fresh(alloc), files)?;
-    let value = engine.get(1, b"state")?;
-    Ok(value.is_some())
+    let is_found = engine.get(1, b"state")?.is_some();
+    engine.close()?;
+    Ok(is_found)
 }

@@ -5,7 +5,7 @@ use Rattle.std.specs.List.{list_all, onto_first, position_or_len, slice_split}
 use Rattle.std.proofs.lemmas.Bool.Decides.{nat_tests}
 use Rattle.std.proofs.lemmas.List.{drop-drop, drop_all, length-drop, take_all}
 use Rattle.std.proofs.lemmas.List.Splits.{slice_split_first}
-use Rattle.raft_lines.specs.Line.{BeginsWith, Delete, Get, Groups, HasNoWord, Put, if_last, parsed_words, delete_by, get_by, is_word, put_by, sync_by, torn_by, with_number, words_in}
+use Rattle.raft_lines.specs.Line.{BeginsWith, Delete, Get, Groups, HasNoWord, Put, asked_of_group, if_last, delete_by, get_by, is_word, put_by, sync_by, torn_by, with_number, words_in}
 use Rattle.raft_script.specs.Number.{number_in}
 use Rattle.raft_lines.specs.declared.line.CrashChoice.{CrashChoice}
 use Rattle.raft_lines.specs.declared.line.CrashChoice.TheVariants.{Torn}
@@ -194,5 +194,5 @@ begins_to asked x text word rest code begins is same = ap (option_and_then asked
     by_words None = refl
     by_words (Some words) = same words
 
-pub asked_groups : (verb : List ℕ) (found : Option (List (List ℕ))) → verb ≡ codes "groups" → option_and_then (λ words. parsed_words (verb ∷ words)) found ≡ option_and_then (if_last Groups) found
-asked_groups verb found e = ap (λ v. option_and_then (λ words. parsed_words (v ∷ words)) found) e
+pub asked_groups : (verb : List ℕ) (found : Option (List (List ℕ))) → verb ≡ codes "groups" → option_and_then (λ words. asked_of_group verb words) found ≡ option_and_then (if_last Groups) found
+asked_groups verb found e = ap (λ v. option_and_then (λ words. asked_of_group v words) found) e

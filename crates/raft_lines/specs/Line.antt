@@ -193,6 +193,24 @@ asked_of_log verb words =
     else if bytes_eq verb (codes "crash") then option_map Crash (left_by words)
     else None
 
+-- .. or look at
+abbrev pub asked_to_look : List ℕ → List (List ℕ) → Option Asked
+asked_to_look verb words =
+    if bytes_eq verb (codes "range") then option_map Range (number_by words)
+    else if bytes_eq verb (codes "scan") then option_map Scan (number_by words)
+    else if bytes_eq verb (codes "span") then option_map Span (queue_by words)
+    else asked_of_log verb words
+
+-- .. or ask for of a group's entries, or of all groups
+abbrev pub asked_of_group : List ℕ → List (List ℕ) → Option Asked
+asked_of_group verb words =
+    if bytes_eq verb (codes "ent") then entries_by words
+    else if bytes_eq verb (codes "clean") then clean_by words
+    else if bytes_eq verb (codes "compact") then compact_by words
+    else if bytes_eq verb (codes "entry") then entry_by words
+    else if bytes_eq verb (codes "groups") then if_last Groups words
+    else asked_to_look verb words
+
 -- what words ask for, by the first of them
 abbrev pub parsed_words : List (List ℕ) → Option Asked
 parsed_words [] = None
@@ -202,15 +220,7 @@ parsed_words (verb ∷ words) =
     else if bytes_eq verb (codes "once") then once_by words
     else if bytes_eq verb (codes "get") then get_by words
     else if bytes_eq verb (codes "sync") then if_last Sync words
-    else if bytes_eq verb (codes "ent") then entries_by words
-    else if bytes_eq verb (codes "clean") then clean_by words
-    else if bytes_eq verb (codes "compact") then compact_by words
-    else if bytes_eq verb (codes "entry") then entry_by words
-    else if bytes_eq verb (codes "groups") then if_last Groups words
-    else if bytes_eq verb (codes "range") then option_map Range (number_by words)
-    else if bytes_eq verb (codes "scan") then option_map Scan (number_by words)
-    else if bytes_eq verb (codes "span") then option_map Span (queue_by words)
-    else asked_of_log verb words
+    else asked_of_group verb words
 
 -- what a line asks for: nothing where it is empty or begins with #
 abbrev pub asked_in : List ℕ → Option Asked

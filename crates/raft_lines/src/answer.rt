@@ -61,9 +61,8 @@ fn print_outcome<W: Write>(output: &mut W, outcome: &Outcome) -> io::Result<()> 
             output.write_all(b"none\n")
         }
         Outcome::Value(Ok(Some(value))) => {
-            output.write_all(b"value ")?;
-            output.write_all(value)?;
-            output.write_all(b"\n")
+            let newline = b"\n".as_slice();
+            print_parts(output, &[b"value ".as_slice(), value.as_slice(), newline])
         }
         Outcome::Count(Ok(count)) => writeln!(output, "dropped {count}"),
         Outcome::Entry(Ok(Some(entry))) => print_entry(output, entry),
@@ -82,11 +81,17 @@ fn print_outcome<W: Write>(output: &mut W, outcome: &Outcome) -> io::Result<()> 
     }
 }
 
+fn print_parts<W: Write>(output: &mut W, parts: &[&[u8]]) -> io::Result<()> {
+    for part in parts {
+        output.write_all(part)?;
+    }
+    Ok(())
+}
+
 fn print_entry<W: Write>(output: &mut W, entry: &TextEntry) -> io::Result<()> {
     let index = entry.index;
     write!(output, "entry {index}:")?;
-    output.write_all(&entry.word)?;
-    output.write_all(b"\n")
+    print_parts(output, &[entry.word.as_slice(), b"\n".as_slice()])
 }
 
 fn print_groups<W: Write>(output: &mut W, word: &[u8], groups: &[u64]) -> io::Result<()> {
@@ -98,12 +103,9 @@ fn print_groups<W: Write>(output: &mut W, word: &[u8], groups: &[u64]) -> io::Re
 }
 
 fn print_pairs<W: Write>(output: &mut W, pairs: &[KeyAndValue]) -> io::Result<()> {
+    let (front, space, newline) = (b"pair ".as_slice(), b" ".as_slice(), b"\n".as_slice());
     for (key, value) in pairs {
-        output.write_all(b"pair ")?;
-        output.write_all(key)?;
-        output.write_all(b" ")?;
-        output.write_all(value)?;
-        output.write_all(b"\n")?;
+        print_parts(output, &[front, key.as_slice(), space, value.as_slice(), newline])?;
     }
     let count = pairs.len();
     writeln!(output, "end {count}")

@@ -2,7 +2,7 @@
 ghost use Rattle.std.specs.Prelude.{◌≡◌, ◌==◌, ◌≤◌, List, ℕ, length, None, Some, [], ◌∷◌, IfOk, MatchOption, option_map, option_and_then};
 ghost use Rattle.std.specs.List.{position_or_len};
 ghost use Rattle.raft_script.specs.Number.{number_in};
-ghost use Rattle.raft_lines.specs.Line.{Crash, BeginsWith, HasNoWord, if_last, parsed_words, asked_in, asked_of, asked_of_call, asked_of_log, clean_by, compact_by, delete_by, entries_by, entry_by, get_by, is_word, left_by, number_by, numbered_by, numbers_by, once_by, put_by, queue_by, rewrite_by, sync_by, torn_by, words_by, words_in};
+ghost use Rattle.raft_lines.specs.Line.{Crash, BeginsWith, HasNoWord, if_last, parsed_words, asked_in, asked_of, asked_of_call, asked_of_group, asked_of_log, asked_to_look, clean_by, compact_by, delete_by, entries_by, entry_by, get_by, is_word, left_by, number_by, numbered_by, numbers_by, once_by, put_by, queue_by, rewrite_by, sync_by, torn_by, words_by, words_in};
 
 use raft_records::LogQueue;
 use raft_script::{Act, Op, entries_between, number_of};
@@ -181,7 +181,16 @@ fn parse_asked<'a>(verb: &[u8], rest: &'a [u8]) -> Option<Line<'a>>
     } else if verb == b"sync".as_slice() {
         ends(rest)?;
         Some(Line::Call(Call::Sync))
-    } else if verb == b"ent".as_slice() {
+    } else {
+        parse_of_group(verb, rest)
+    }
+}
+
+fn parse_of_group<'a>(verb: &[u8], rest: &'a [u8]) -> Option<Line<'a>>
+    ensures value { option_map asked_of result
+        ≡ option_and_then (λ words. asked_of_group verb.now words) (words_in rest.now) }
+{
+    if verb == b"ent".as_slice() {
         Some(Line::Call(parse_entries(rest)?))
     } else if verb == b"clean".as_slice() {
         Some(Line::Call(parse_clean(rest)?))
@@ -192,7 +201,16 @@ fn parse_asked<'a>(verb: &[u8], rest: &'a [u8]) -> Option<Line<'a>>
     } else if verb == b"groups".as_slice() {
         ends(rest)?;
         Some(Line::Call(Call::Groups))
-    } else if verb == b"range".as_slice() {
+    } else {
+        parse_look(verb, rest)
+    }
+}
+
+fn parse_look<'a>(verb: &[u8], rest: &[u8]) -> Option<Line<'a>>
+    ensures value { option_map asked_of result
+        ≡ option_and_then (λ words. asked_to_look verb.now words) (words_in rest.now) }
+{
+    if verb == b"range".as_slice() {
         Some(Line::Look(Look::Range(parse_last_number(rest)?)))
     } else if verb == b"scan".as_slice() {
         Some(Line::Look(Look::Scan(parse_last_number(rest)?)))
@@ -203,7 +221,6 @@ fn parse_asked<'a>(verb: &[u8], rest: &'a [u8]) -> Option<Line<'a>>
     }
 }
 
-// A line that asks for something of the whole log.
 fn parse_of_log<'a>(verb: &[u8], rest: &[u8]) -> Option<Line<'a>>
     ensures value { option_map asked_of result
         ≡ option_and_then (λ words. asked_of_log verb.now words) (words_in rest.now) }
@@ -324,7 +341,6 @@ fn parse_once(rest: &[u8]) -> Option<Call<'_>>
     parse_numbered(group, number, rest)
 }
 
-// The put that has this number of its group.
 fn parse_numbered(group: u64, number: u64, rest: &[u8]) -> Option<Call<'_>>
     ensures value { option_map asked_of_call result
         ≡ option_and_then (numbered_by group number) (words_in rest.now) }
@@ -396,7 +412,6 @@ fn parse_entry<'a>(rest: &[u8]) -> Option<Call<'a>>
     Some(Call::Entry { group, index })
 }
 
-// Two numbers, after which the line ends.
 fn parse_two_numbers(rest: &[u8]) -> Option<(u64, u64)>
     ensures value { result ≡ option_and_then numbers_by (words_in rest.now) }
 {
@@ -465,7 +480,6 @@ fn parse_number(text: &[u8]) -> Option<(u64, &[u8])>
     Some((number_of(word)?, rest))
 }
 
-// Whether the word `sync` ends the line.
 fn parse_sync(rest: &[u8]) -> Option<bool>
     ensures value { result ≡ option_and_then sync_by (words_in rest.now) }
 {

@@ -12,6 +12,7 @@ ghost use Rattle.raft_script.specs.Failure.{IsStorageOrMemory};
 ghost use Rattle.raft_lines.specs.Line.{EndsOn, GoesOnOrEnds, IsNextLine, IsReading, IsServed, asked_in, asked_of, asked_of_call, asked_of_look, asks, is_asked, is_bad};
 ghost use Rattle.raft_lines.specs.Program.{AnswersBy, AnswersFrom, AnswersLine, AnswersLook, HoldsAfterCrash, IsAnswered, IsCrashFault, IsMetBy, IsNewWith, IsOpeningFault, IsReopenFault, IsReopened, OpensTo, is_fatal};
 ghost use Rattle.raft_lines.specs.Settings.{were_read};
+ghost use Rattle.raft_lines.specs.declared.line.CrashChoice.{CrashChoice};
 
 use crate::answer::{Answer, print};
 use crate::line::{Call, CrashChoice, Line, Look, parse_line};
@@ -71,16 +72,32 @@ fn serve_lines<R: BufRead, W: Write>(alloc: Global, input: &mut R, output: &mut 
     let mut settings = Settings::new(alloc);
     let mut engine = None;
     let mut text = Vec::new(alloc);
+    let ended = serve_each(alloc, &mut settings, &mut engine, &mut text, input, output);
+    let_go(engine);
+    ended
+}
+
+// Over any files, and by a call: the prover takes long over a drop of an engine, longest of one
+// over files of one kind.
+fn let_go<F: FileSystem + Drop>(engine: Option<Engine<F>>) {
+    if let Some(engine) = engine {
+        engine.give_up();
+    }
+}
+
+fn serve_each<R: BufRead, W: Write>(
+    alloc: Global,
+    settings: &mut Settings,
+    engine: &mut Option<MemoryEngine>,
+    text: &mut Vec<u8>,
+    input: &mut R,
+    output: &mut W,
+) -> Ended
+    requires { were_read settings.old ≡ false }
+    ensures lines { IfSome (R.Read.remaining input.old) (λ text. EndsOn text result) }
+{
     for number in 1..u64::MAX {
-        if let Some(ended) = serve_next(
-            alloc,
-            &mut settings,
-            &mut engine,
-            number,
-            &mut text,
-            input,
-            output,
-        ) {
+        if let Some(ended) = serve_next(alloc, settings, engine, number, text, input, output) {
             return ended;
         }
     }
@@ -245,21 +262,53 @@ fn answer_asked(
     ensures value { IfOk result (λ answer.
         AnswersFrom config.now (asked_of line.now) answer met engine.new) }
 {
+    if let Line::Crash(left) = line {
+        return crash(alloc, config, engine, met, left);
+    }
+    answer_met(alloc, config, engine, met, line)
+}
+
+// .. over any files, but for a crash.
+fn answer_met<F: FileSystem + Drop>(
+    alloc: Global,
+    config: &Config,
+    engine: &mut Option<Engine<F>>,
+    met: Engine<F>,
+    line: &Line<'_>,
+) -> Result<Answer, AllocError>
+    requires something { line.now ≡ Line.Nothing → ⊥ }
+    requires no_crash { (left : CrashChoice) → line.now ≡ Line.Crash left → ⊥ }
+    ensures value { IfOk result (λ answer.
+        AnswersFrom config.now (asked_of line.now) answer met engine.new) }
+{
     match line {
         Line::Reopen => Ok(reopen(engine, met)),
-        Line::Crash(left) => crash(alloc, config, engine, met, left),
         Line::Call(call) => {
             let mut met = met;
-            let outcome = answer_call(alloc, &mut met, call)?;
-            *engine = Some(met);
-            Ok(Answer::Outcome(outcome))
+            match answer_call(alloc, &mut met, call) {
+                Ok(outcome) => {
+                    *engine = Some(met);
+                    Ok(Answer::Outcome(outcome))
+                }
+                Err(error) => {
+                    met.give_up();
+                    Err(error)
+                }
+            }
         }
         Line::Look(look) => {
             let answer = answer_look(alloc, &met, look);
             *engine = Some(met);
             Ok(answer)
         }
-        Line::Nothing => Ok(Answer::Nothing),
+        Line::Nothing => {
+            met.give_up();
+            Ok(Answer::Nothing)
+        }
+        Line::Crash(_) => {
+            met.give_up();
+            Ok(Answer::Nothing)
+        }
     }
 }
 
@@ -312,8 +361,9 @@ fn crash(
         (HoldsAfterCrash (folders_in config.now) met) (IsCrashFault config.now met)) }
 {
     crash_leaves_contents();
+    let whole = met.give_up();
     let copy = copied(config)?;
-    match crashed(alloc, config, met.give_up(), left) {
+    match crashed(alloc, config, whole, left) {
         Ok(files) => Ok(open_again(alloc, engine, copy, files)),
         Err(fault) => Ok(Answer::Fatal(fault)),
     }

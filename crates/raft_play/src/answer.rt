@@ -129,6 +129,17 @@ impl fmt::Display for Sizes<'_> {
     }
 }
 
+// The number that is all of an answer.
+fn number_in(outcome: &Outcome) -> Option<u64> {
+    match outcome {
+        Outcome::Size(Ok(size)) => Some(*size as u64),
+        Outcome::Dropped(Ok(count)) => Some(*count as u64),
+        Outcome::Count(Ok(count)) => Some(*count),
+        Outcome::Index(index) => *index,
+        _ => None,
+    }
+}
+
 #[derive(Clone, Copy)]
 struct Answered<'a>(&'a Outcome);
 
@@ -138,16 +149,15 @@ impl fmt::Display for Answered<'_> {
             let code = fault.code();
             return write!(f, "refused {code}");
         }
+        if let Some(number) = number_in(self.0) {
+            return write!(f, "{number}");
+        }
         match self.0 {
-            Outcome::Size(Ok(size)) => write!(f, "{size}"),
             Outcome::Sizes(Ok(sizes)) => {
                 let sizes = Sizes(sizes);
                 write!(f, "sizes{sizes}")
             }
             Outcome::Done(Ok(())) => write!(f, "ok"),
-            Outcome::Dropped(Ok(count)) => write!(f, "{count}"),
-            Outcome::Count(Ok(count)) => write!(f, "{count}"),
-            Outcome::Index(Some(index)) => write!(f, "{index}"),
             Outcome::Value(Ok(None)) | Outcome::Entry(Ok(None)) | Outcome::Index(None) => {
                 write!(f, "none")
             }
@@ -168,7 +178,7 @@ impl fmt::Display for Answered<'_> {
                 let groups = Groups(groups);
                 write!(f, "ask{groups}")
             }
-            // refused, as was said before
+            // refused or a number, as was said before
             _ => Ok(()),
         }
     }

@@ -1,7 +1,7 @@
 //! Lines that put something into the batch of the next write.
 
 use crate::answer::{Answer, Unanswered};
-use crate::words::{Names, bytes_of, number};
+use crate::words::{Names, bytes_of, number, one};
 use raft_records::{Command, EntryIndex, Fault, LogBatch};
 use raft_test_rows::{Outcome, TextEntry};
 use std::alloc::{AllocError, Global};
@@ -48,6 +48,78 @@ pub(crate) fn add_raw(
     batch.add_raw_entries(group, vec![in alloc; entry]?, vec![in alloc; bytes]?)
 }
 
+fn put(
+    alloc: Global,
+    names: &Names,
+    batch: &mut LogBatch,
+    group: u64,
+    words: &[&str],
+) -> Result<(), Unanswered> {
+    let [key, value] = words else {
+        return Err(Unanswered::BadLine);
+    };
+    let (key, value) = (bytes_of(alloc, names, key)?, bytes_of(alloc, names, value)?);
+    Ok(batch.put(group, key, value)?)
+}
+
+fn put_message(
+    alloc: Global,
+    names: &Names,
+    batch: &mut LogBatch,
+    group: u64,
+    words: &[&str],
+) -> Result<(), Unanswered> {
+    let [key, index, word] = words else {
+        return Err(Unanswered::BadLine);
+    };
+    let index = number(index)?;
+    let (key, word) = (bytes_of(alloc, names, key)?, bytes_of(alloc, names, word)?);
+    Ok(batch.put_message(group, key, &TextEntry { index, word })?)
+}
+
+fn add_entries(
+    alloc: Global,
+    names: &Names,
+    batch: &mut LogBatch,
+    group: u64,
+    words: &[&str],
+) -> Result<(), Unanswered> {
+    let [first, last, word] = words else {
+        return Err(Unanswered::BadLine);
+    };
+    let (first, last) = (number(first)?, number(last)?);
+    let word = bytes_of(alloc, names, word)?;
+    let entries = text_entries(alloc, first, last, &word)?;
+    Ok(batch.add_entries::<TextEntry>(group, &entries)?)
+}
+
+fn delete(
+    alloc: Global,
+    names: &Names,
+    batch: &mut LogBatch,
+    group: u64,
+    words: &[&str],
+) -> Result<(), Unanswered> {
+    let [key] = words else {
+        return Err(Unanswered::BadLine);
+    };
+    Ok(batch.delete(group, bytes_of(alloc, names, key)?)?)
+}
+
+fn add_bytes(
+    alloc: Global,
+    names: &Names,
+    batch: &mut LogBatch,
+    group: u64,
+    words: &[&str],
+) -> Result<(), Unanswered> {
+    let [index, bytes] = words else {
+        return Err(Unanswered::BadLine);
+    };
+    let index = number(index)?;
+    Ok(add_raw(alloc, batch, group, index, bytes_of(alloc, names, bytes)?)?)
+}
+
 // What a line puts into the batch.
 fn change(
     alloc: Global,
@@ -55,34 +127,42 @@ fn change(
     batch: &mut LogBatch,
     words: &[&str],
 ) -> Result<(), Unanswered> {
-    match words {
-        ["put", group, key, value] => {
-            let (key, value) = (bytes_of(alloc, names, key)?, bytes_of(alloc, names, value)?);
-            batch.put(number(group)?, key, value)?
+    let [verb, group, rest @ ..] = words else {
+        return Err(Unanswered::BadLine);
+    };
+    let group = number(group)?;
+    match *verb {
+        "put" => put(alloc, names, batch, group, rest),
+        "del" => delete(alloc, names, batch, group, rest),
+        "message" => put_message(alloc, names, batch, group, rest),
+        "ent" => add_entries(alloc, names, batch, group, rest),
+        "raw" => add_bytes(alloc, names, batch, group, rest),
+        "clean" if rest.is_empty() => Ok(batch.add_command(group, Command::Clean)?),
+        "compact" => {
+            let index = one(rest)?;
+            Ok(batch.add_command(group, Command::Compact { index })?)
         }
-        ["del", group, key] => batch.delete(number(group)?, bytes_of(alloc, names, key)?)?,
-        ["message", group, key, index, word] => {
-            let (key, word) = (bytes_of(alloc, names, key)?, bytes_of(alloc, names, word)?);
-            let index = number(index)?;
-            batch.put_message(number(group)?, key, &TextEntry { index, word })?
-        }
-        ["ent", group, first, last, word] => {
-            let word = bytes_of(alloc, names, word)?;
-            let entries = text_entries(alloc, number(first)?, number(last)?, &word)?;
-            batch.add_entries::<TextEntry>(number(group)?, &entries)?
-        }
-        ["raw", group, index, bytes] => {
-            let bytes = bytes_of(alloc, names, bytes)?;
-            add_raw(alloc, batch, number(group)?, number(index)?, bytes)?
-        }
-        ["clean", group] => batch.add_command(number(group)?, Command::Clean)?,
-        ["compact", group, index] => {
-            let index = number(index)?;
-            batch.add_command(number(group)?, Command::Compact { index })?
-        }
-        _ => return Err(Unanswered::BadLine),
+        _ => Err(Unanswered::BadLine),
     }
-    Ok(())
+}
+
+// Whether each batch is empty where it was written, and isn't where it was refused.
+fn are_kept(batches: &[LogBatch], sizes: &[Result<usize, Fault>]) -> bool {
+    for (batch, size) in batches.iter().zip(sizes.iter()) {
+        if batch.is_empty() != size.is_ok() {
+            return false;
+        }
+    }
+    true
+}
+
+fn has_empty(batches: &[LogBatch]) -> bool {
+    for batch in batches {
+        if batch.is_empty() {
+            return true;
+        }
+    }
+    false
 }
 
 impl Writing {
@@ -117,12 +197,8 @@ impl Writing {
     pub(crate) fn has_kept(&self, outcome: &Outcome) -> bool {
         match outcome {
             Outcome::Size(size) => self.batch.is_empty() == size.is_ok(),
-            Outcome::Sizes(Ok(sizes)) => self
-                .batches
-                .iter()
-                .zip(sizes)
-                .all(|(batch, size)| batch.is_empty() == size.is_ok()),
-            Outcome::Sizes(Err(_)) => self.batches.iter().all(|batch| !batch.is_empty()),
+            Outcome::Sizes(Ok(sizes)) => are_kept(&self.batches, sizes),
+            Outcome::Sizes(Err(_)) => !has_empty(&self.batches),
             _ => true,
         }
     }

@@ -54,6 +54,18 @@ fn planned_len(planned: Option<&Planned>, len: usize) -> usize {
     }
 }
 
+fn is_as_long<F: FileSystem>(
+    alloc: Global,
+    files: &mut F,
+    path: &str,
+    len: usize,
+) -> Result<bool, Fault> {
+    match length(files, path) {
+        Ok(found) => Ok(found == len),
+        Err(fault) => Err(fault.with_path(alloc, path)),
+    }
+}
+
 // Whether each file of a queue is as long as planned; where the opening fails, none has changed.
 fn is_left<F: FileSystem>(
     alloc: Global,
@@ -68,13 +80,42 @@ fn is_left<F: FileSystem>(
             Some(kept) if opens => plan.get(kept),
             _ => None,
         };
-        match length(files, file.path.as_str()) {
-            Ok(len) if len == planned_len(planned, check.len) => {}
-            Ok(_) => return Ok(false),
-            Err(fault) => return Err(fault.with_path(alloc, file.path.as_str())),
+        let len = planned_len(planned, check.len);
+        if !is_as_long(alloc, files, file.path.as_str(), len)? {
+            return Ok(false);
         }
     }
     Ok(true)
+}
+
+// Whether an opening fails just where that was told, and leaves the files as planned.
+fn agrees<F: FileSystem + Drop>(
+    alloc: Global,
+    files: F,
+    checked: &Checked,
+    mode: RecoveryMode,
+    fails: bool,
+) -> Result<bool, Fault> {
+    let (opens, mut left) = opened(alloc, config(alloc, mode)?, files);
+    Ok(opens != fails
+        && is_left(alloc, &mut left, &checked.append, mode, opens)?
+        && is_left(alloc, &mut left, &checked.rewrite, mode, opens)?)
+}
+
+fn told(alloc: Global, outlook: &Outlook) -> Result<String, AllocError> {
+    let Outlook {
+        fails,
+        files,
+        bytes,
+        zeros,
+        stale,
+        ..
+    } = outlook;
+    if *fails {
+        String::from_str(alloc, "fails")
+    } else {
+        format!(in alloc; "opens {files} {bytes} {zeros} {stale}")
+    }
 }
 
 /// What a check tells of an opening, if the opening then does it.
@@ -86,23 +127,9 @@ pub(crate) fn outlook<F: FileSystem + Drop>(
     let mut files = files;
     let checked = check_both(alloc, &mut files)?;
     let outlook = outlook_of(alloc, &checked, mode)?;
-    let (opens, mut left) = opened(alloc, config(alloc, mode)?, files);
-    let does = opens != outlook.fails
-        && is_left(alloc, &mut left, &checked.append, mode, opens)?
-        && is_left(alloc, &mut left, &checked.rewrite, mode, opens)?;
-    let Outlook {
-        fails,
-        files,
-        bytes,
-        zeros,
-        stale,
-        ..
-    } = &outlook;
-    Ok(if !does {
-        String::from_str(alloc, "otherwise")?
-    } else if *fails {
-        String::from_str(alloc, "fails")?
+    Ok(if agrees(alloc, files, &checked, mode, outlook.fails)? {
+        told(alloc, &outlook)?
     } else {
-        format!(in alloc; "opens {files} {bytes} {zeros} {stale}")?
+        String::from_str(alloc, "otherwise")?
     })
 }

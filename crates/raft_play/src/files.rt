@@ -6,7 +6,7 @@ use crate::words::{Names, bytes_of, number};
 use raft_env::{FileSystem, FsFault, Permission};
 use raft_fork::fork;
 use raft_test_rows::{Config, Faulty, Left, RecoveryMode};
-use std::alloc::Global;
+use std::alloc::{AllocError, Global};
 
 fn store<F: FileSystem>(files: &mut F, path: &str, bytes: &[u8]) -> Result<(), FsFault> {
     let handle = files.create(path)?;
@@ -66,10 +66,21 @@ fn left_of(words: &[&str]) -> Result<Left, Unanswered> {
 
 // How many names of a folder are those of Append files and of reserved ones.
 fn count_logs(names: &[String]) -> u64 {
-    let logs = names
-        .iter()
-        .filter(|name| name.as_str().contains(".raftlog"));
-    logs.count() as u64
+    let mut count = 0u64;
+    for name in names {
+        if name.as_str().contains(".raftlog") {
+            count = count.saturating_add(1);
+        }
+    }
+    count
+}
+
+fn add_paths(text: &mut String, front: &str, paths: &[String]) -> Result<(), AllocError> {
+    for path in paths {
+        text.push_str(front)?;
+        text.push_str(path.as_str())?;
+    }
+    Ok(())
 }
 
 // The paths of the copies, and of links, of which a fork makes none.
@@ -81,15 +92,97 @@ fn forked<F: FileSystem>(
 ) -> Result<Answer, Unanswered> {
     let details = fork(alloc, config, files, target)?;
     let mut text = String::from_str(alloc, "copied")?;
-    for path in &details.copied {
-        text.push_str(" ")?;
-        text.push_str(path.as_str())?;
-    }
-    for path in &details.symlinked {
-        text.push_str(" linked ")?;
-        text.push_str(path.as_str())?;
-    }
+    add_paths(&mut text, " ", &details.copied)?;
+    add_paths(&mut text, " linked ", &details.symlinked)?;
     Ok(Answer::Text(text))
+}
+
+fn answer_store<F: FileSystem>(
+    alloc: Global,
+    names: &Names,
+    files: &mut F,
+    words: &[&str],
+) -> Result<Answer, Unanswered> {
+    let [path, bytes] = words else {
+        return Err(Unanswered::BadLine);
+    };
+    store(files, path, &bytes_of(alloc, names, bytes)?)?;
+    Ok(Answer::Done)
+}
+
+fn answer_has<F: FileSystem>(
+    alloc: Global,
+    names: &Names,
+    files: &mut F,
+    words: &[&str],
+) -> Result<Answer, Unanswered> {
+    let [path, bytes] = words else {
+        return Err(Unanswered::BadLine);
+    };
+    let wanted = bytes_of(alloc, names, bytes)?;
+    Ok(Answer::Is(has(alloc, files, path, &wanted)?))
+}
+
+fn answer_free<F: Faulty>(files: &mut F, words: &[&str]) -> Result<Answer, Unanswered> {
+    let [path, bytes] = words else {
+        return Err(Unanswered::BadLine);
+    };
+    files.free_to(path, number(bytes)?)?;
+    Ok(Answer::Done)
+}
+
+fn answer_crash<F: Faulty>(
+    alloc: Global,
+    files: &mut F,
+    words: &[&str],
+) -> Result<Answer, Unanswered> {
+    files.crash_to(alloc, &left_of(words)?)?;
+    Ok(Answer::Done)
+}
+
+fn agree<F: Faulty>(alloc: Global, files: &mut F, mode: &str) -> Result<Answer, Unanswered> {
+    let copy = files.copied(alloc)?;
+    Ok(Answer::Text(outlook(alloc, copy, mode_of(mode)?)?))
+}
+
+// What a line changes at one path.
+fn change_at<F: Faulty>(files: &mut F, verb: &str, path: &str) -> Result<Answer, Unanswered> {
+    match verb {
+        "folder" => files.make_dir(path)?,
+        "note" => files.note(path)?,
+        _ => return Err(Unanswered::BadLine),
+    }
+    Ok(Answer::Done)
+}
+
+// What stands at one path.
+fn look_at<F: Faulty>(files: &mut F, verb: &str, path: &str) -> Result<Answer, Unanswered> {
+    match verb {
+        "is-folder" => Ok(Answer::Is(files.is_dir(path))),
+        "metadata" => Ok(Answer::Is(files.exists_metadata(path))),
+        "length" => Ok(Answer::Number(length(files, path)? as u64)),
+        "files" => Ok(Answer::Number(files.list(path)?.len() as u64)),
+        "logs" => Ok(Answer::Number(count_logs(&files.list(path)?))),
+        _ => change_at(files, verb, path),
+    }
+}
+
+// What a line with one more word asks for.
+fn answer_at<F: Faulty>(
+    alloc: Global,
+    config: &Config,
+    files: &mut F,
+    verb: &str,
+    words: &[&str],
+) -> Result<Answer, Unanswered> {
+    let [word] = words else {
+        return Err(Unanswered::BadLine);
+    };
+    match verb {
+        "fork" => forked(alloc, config, files, word),
+        "agree" => agree(alloc, files, word),
+        _ => look_at(files, verb, word),
+    }
 }
 
 /// What files answer, where these are the settings.
@@ -100,27 +193,14 @@ pub(crate) fn answer<F: Faulty>(
     files: &mut F,
     words: &[&str],
 ) -> Result<Answer, Unanswered> {
-    match words {
-        ["folder", path] => files.make_dir(path)?,
-        ["store", path, bytes] => store(files, path, &bytes_of(alloc, names, bytes)?)?,
-        ["note", path] => files.note(path)?,
-        ["free", path, bytes] => files.free_to(path, number(bytes)?)?,
-        ["crash", left @ ..] => files.crash_to(alloc, &left_of(left)?)?,
-        ["has", path, bytes] => {
-            let wanted = bytes_of(alloc, names, bytes)?;
-            return Ok(Answer::Is(has(alloc, files, path, &wanted)?));
-        }
-        ["is-folder", path] => return Ok(Answer::Is(files.is_dir(path))),
-        ["metadata", path] => return Ok(Answer::Is(files.exists_metadata(path))),
-        ["length", path] => return Ok(Answer::Number(length(files, path)? as u64)),
-        ["files", path] => return Ok(Answer::Number(files.list(path)?.len() as u64)),
-        ["logs", path] => return Ok(Answer::Number(count_logs(&files.list(path)?))),
-        ["fork", target] => return forked(alloc, config, files, target),
-        ["agree", mode] => {
-            let copy = files.copied(alloc)?;
-            return Ok(Answer::Text(outlook(alloc, copy, mode_of(mode)?)?));
-        }
-        _ => return Err(Unanswered::BadLine),
+    let [verb, rest @ ..] = words else {
+        return Err(Unanswered::BadLine);
+    };
+    match *verb {
+        "store" => answer_store(alloc, names, files, rest),
+        "has" => answer_has(alloc, names, files, rest),
+        "free" => answer_free(files, rest),
+        "crash" => answer_crash(alloc, files, rest),
+        _ => answer_at(alloc, config, files, verb, rest),
     }
-    Ok(Answer::Done)
 }

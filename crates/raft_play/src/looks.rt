@@ -1,7 +1,7 @@
 //! Lines that ask an engine for what it holds.
 
 use crate::answer::{Answer, Unanswered};
-use crate::words::{Names, Spelled, bound, bytes_of, number};
+use crate::words::{Names, Spelled, bound, bytes_of, number, one, two};
 use raft_env::FileSystem;
 use raft_records::Message;
 use raft_test_rows::{Engine, Outcome, TextEntry, state_of};
@@ -66,15 +66,18 @@ fn scanned<F: FileSystem>(
     engine: &Engine<F>,
     words: &[&str],
 ) -> Result<Answer, Unanswered> {
-    let (group, start, end, reverse, most) = match words {
-        [group, start, end, "most", most] => (group, start, end, false, most),
-        [group, start, end, "back", "most", most] => (group, start, end, true, most),
+    let [group, start, end, how @ .., most] = words else {
+        return Err(Unanswered::BadLine);
+    };
+    let reverse = match how {
+        ["most"] => false,
+        ["back", "most"] => true,
         _ => return Err(Unanswered::BadLine),
     };
-    let group = number(group)?;
+    let (group, most) = (number(group)?, number(most)?);
     let start = key_bound(alloc, names, start)?;
     let end = key_bound(alloc, names, end)?;
-    let mut handed = Handed::new(alloc, number(most)?)?;
+    let mut handed = Handed::new(alloc, most)?;
     engine.scan_raw_messages(
         group,
         start.as_deref(),
@@ -119,6 +122,20 @@ fn lends<F: FileSystem>(
     Ok(engine.loaded(place) == bytes.as_slice())
 }
 
+fn each_is_lent<F: FileSystem>(
+    alloc: Global,
+    engine: &mut Engine<F>,
+    group: u64,
+    entries: &[TextEntry],
+) -> Result<bool, Unanswered> {
+    for entry in entries {
+        if !lends(alloc, engine, group, entry.index, Some(entry))? {
+            return Ok(false);
+        }
+    }
+    Ok(true)
+}
+
 fn lent_differs(alloc: Global) -> Result<Answer, Unanswered> {
     Ok(Answer::Text(String::from_str(alloc, "lent differs")?))
 }
@@ -127,9 +144,9 @@ fn lent_differs(alloc: Global) -> Result<Answer, Unanswered> {
 fn entry_at<F: FileSystem>(
     alloc: Global,
     engine: &mut Engine<F>,
-    group: u64,
-    index: u64,
+    words: &[&str],
 ) -> Result<Answer, Unanswered> {
+    let (group, index) = two(words)?;
     let copied = engine.get_entry::<TextEntry>(group, index)?;
     if lends(alloc, engine, group, index, copied.as_ref())? {
         Ok(Answer::Outcome(Outcome::Entry(Ok(copied))))
@@ -154,12 +171,52 @@ fn fetched<F: FileSystem>(
     };
     let mut entries: Vec<TextEntry> = Vec::new(alloc);
     let count = engine.fetch_entries_to::<TextEntry>(group, begin, end, most, &mut entries)?;
-    for entry in &entries {
-        if !lends(alloc, engine, group, entry.index, Some(entry))? {
-            return lent_differs(alloc);
-        }
+    if each_is_lent(alloc, engine, group, &entries)? {
+        Ok(Answer::Pair(count as u64, entries.len() as u64))
+    } else {
+        lent_differs(alloc)
     }
-    Ok(Answer::Pair(count as u64, entries.len() as u64))
+}
+
+fn message_at<F: FileSystem>(
+    alloc: Global,
+    names: &Names,
+    engine: &mut Engine<F>,
+    words: &[&str],
+) -> Result<Answer, Unanswered> {
+    let [group, key] = words else {
+        return Err(Unanswered::BadLine);
+    };
+    let group = number(group)?;
+    let key = bytes_of(alloc, names, key)?;
+    let message = engine.get_message::<TextEntry>(group, &key);
+    Ok(Answer::Outcome(Outcome::Entry(message)))
+}
+
+fn span_of<F: FileSystem>(engine: &Engine<F>, words: &[&str]) -> Result<Answer, Unanswered> {
+    let spans = engine.file_spans();
+    let (first, last) = match words {
+        ["append"] => spans.append,
+        ["rewrite"] => spans.rewrite,
+        _ => return Err(Unanswered::BadLine),
+    };
+    Ok(Answer::Pair(first, last))
+}
+
+// What an engine answers to one word.
+fn answer_whole<F: FileSystem>(
+    alloc: Global,
+    engine: &mut Engine<F>,
+    words: &[&str],
+) -> Result<Answer, Unanswered> {
+    match words {
+        ["found"] => Ok(Answer::Found(state_of(&engine.image()?))),
+        ["empty"] => Ok(Answer::Is(engine.is_empty())),
+        ["failed"] => Ok(Answer::Is(engine.failed())),
+        ["used"] => Ok(Answer::Number(engine.get_used_size() as u64)),
+        ["path"] => Ok(Answer::Text(String::from_str(alloc, engine.path())?)),
+        _ => Err(Unanswered::BadLine),
+    }
 }
 
 /// What an engine answers.
@@ -169,37 +226,16 @@ pub(crate) fn answer<F: FileSystem>(
     engine: &mut Engine<F>,
     words: &[&str],
 ) -> Result<Answer, Unanswered> {
-    Ok(match words {
-        ["found"] => Answer::Found(state_of(&engine.image()?)),
-        ["get", group, key] => {
-            let key = bytes_of(alloc, names, key)?;
-            Answer::Outcome(Outcome::Value(engine.get(number(group)?, &key)))
-        }
-        ["entry", group, index] => entry_at(alloc, engine, number(group)?, number(index)?)?,
-        ["message-at", group, key] => {
-            let key = bytes_of(alloc, names, key)?;
-            let message = engine.get_message::<TextEntry>(number(group)?, &key);
-            Answer::Outcome(Outcome::Entry(message))
-        }
-        ["first", group] => Answer::Outcome(Outcome::Index(engine.first_index(number(group)?))),
-        ["last", group] => Answer::Outcome(Outcome::Index(engine.last_index(number(group)?))),
-        ["groups"] => Answer::Outcome(Outcome::Groups(engine.raft_groups())),
-        ["empty"] => Answer::Is(engine.is_empty()),
-        ["failed"] => Answer::Is(engine.failed()),
-        ["used"] => Answer::Number(engine.get_used_size() as u64),
-        ["path"] => Answer::Text(String::from_str(alloc, engine.path())?),
-        ["span", queue] => {
-            let spans = engine.file_spans();
-            let (first, last) = match *queue {
-                "append" => spans.append,
-                "rewrite" => spans.rewrite,
-                _ => return Err(Unanswered::BadLine),
-            };
-            Answer::Pair(first, last)
-        }
-        ["fetch", bounds @ ..] => fetched(alloc, engine, bounds)?,
-        ["scan", bounds @ ..] => scanned(alloc, names, engine, bounds)?,
-        ["messages", group] => messages(alloc, engine, number(group)?)?,
-        _ => return Err(Unanswered::BadLine),
-    })
+    let [verb, rest @ ..] = words else {
+        return Err(Unanswered::BadLine);
+    };
+    match *verb {
+        "entry" => entry_at(alloc, engine, rest),
+        "message-at" => message_at(alloc, names, engine, rest),
+        "span" => span_of(engine, rest),
+        "fetch" => fetched(alloc, engine, rest),
+        "scan" => scanned(alloc, names, engine, rest),
+        "messages" => messages(alloc, engine, one(rest)?),
+        _ => answer_whole(alloc, engine, words),
+    }
 }

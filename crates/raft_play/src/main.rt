@@ -21,23 +21,33 @@ use table::{Tally, play};
 fn main(rt: HostRuntime) -> Result<ExitCode, anyhow::Error> {
     let mut all_right = true;
     for path in env::args(&rt)?.skip(1) {
-        let text = fs::read_to_string(&rt, path.as_str())?;
-        let Tally {
-            stories,
-            lines,
-            answers,
-            wrong,
-            first_wrong,
-        } = &play::<MemoryFileSystem>(rt.alloc(), text.as_str())?;
-        println!(rt; "{path}: {stories} stories, {lines} lines, {answers} answers, {wrong} wrong")?;
-        if let Some(first) = first_wrong {
-            println!(rt; "{first}")?;
-            all_right = false;
-        }
+        all_right = play_file(rt, path.as_str())? && all_right;
     }
     Ok(if all_right {
         ExitCode::SUCCESS
     } else {
         ExitCode::from(1)
     })
+}
+
+// Whether each line is answered as it says.
+fn play_file(rt: HostRuntime, path: &str) -> Result<bool, anyhow::Error> {
+    let text = fs::read_to_string(&rt, path)?;
+    let tally = play::<MemoryFileSystem>(rt.alloc(), text.as_str())?;
+    tell(rt, path, &tally)
+}
+
+fn tell(rt: HostRuntime, path: &str, tally: &Tally) -> Result<bool, anyhow::Error> {
+    let Tally {
+        stories,
+        lines,
+        answers,
+        wrong,
+        first_wrong,
+    } = tally;
+    println!(rt; "{path}: {stories} stories, {lines} lines, {answers} answers, {wrong} wrong")?;
+    if let Some(first) = first_wrong {
+        println!(rt; "{first}")?;
+    }
+    Ok(first_wrong.is_none())
 }

@@ -2,7 +2,7 @@
 
 use crate::answer::BAD_LINE;
 use crate::session::Session;
-use raft_test_rows::Faulty;
+use raft_test_rows::{Faulty, Held};
 use std::alloc::{AllocError, Global};
 
 /// What a file came to.
@@ -44,20 +44,21 @@ impl Tally {
     fn play_line<F: Faulty>(
         &mut self,
         alloc: Global,
-        session: &mut Session<F>,
+        session: &mut Session,
+        held: &mut Held<F>,
         number: usize,
         line: &str,
     ) -> Result<(), AllocError> {
         if line.starts_with("story ") {
             self.stories = self.stories.saturating_add(1);
-            return session.renew();
+            return session.renew(held);
         }
         let (asked, wanted) = parts(line);
         self.lines = self.lines.saturating_add(1);
         if wanted.is_some() {
             self.answers = self.answers.saturating_add(1);
         }
-        let answered = session.answered(asked)?;
+        let answered = session.answered(held, asked)?;
         if !is_right(answered.as_str(), wanted) {
             self.wrong = self.wrong.saturating_add(1);
             if self.first_wrong.is_none() {
@@ -71,7 +72,16 @@ impl Tally {
 
 /// Plays the lines over new files of this kind.
 pub(crate) fn play<F: Faulty>(alloc: Global, text: &str) -> Result<Tally, AllocError> {
-    let mut session: Session<F> = Session::new(alloc);
+    let mut held: Held<F> = Held::Nothing;
+    play_lines(alloc, &mut held, text)
+}
+
+fn play_lines<F: Faulty>(
+    alloc: Global,
+    held: &mut Held<F>,
+    text: &str,
+) -> Result<Tally, AllocError> {
+    let mut session = Session::new(alloc);
     let mut tally = Tally {
         stories: 0,
         lines: 0,
@@ -81,7 +91,8 @@ pub(crate) fn play<F: Faulty>(alloc: Global, text: &str) -> Result<Tally, AllocE
     };
     for (place, line) in text.lines().enumerate() {
         if !line.is_empty() && !line.starts_with("#") {
-            tally.play_line(alloc, &mut session, place.saturating_add(1), line)?;
+            let number = place.saturating_add(1);
+            tally.play_line(alloc, &mut session, held, number, line)?;
         }
     }
     Ok(tally)

@@ -25,6 +25,32 @@ pub(crate) fn bound(word: &str) -> Result<Option<u64>, Unanswered> {
     }
 }
 
+/// The one number that these words are.
+pub(crate) fn one(words: &[&str]) -> Result<u64, Unanswered> {
+    match words {
+        [word] => number(word),
+        _ => Err(Unanswered::BadLine),
+    }
+}
+
+/// The two numbers that these words are.
+pub(crate) fn two(words: &[&str]) -> Result<(u64, u64), Unanswered> {
+    let [first, second] = words else {
+        return Err(Unanswered::BadLine);
+    };
+    Ok((number(first)?, number(second)?))
+}
+
+// Adds the bytes that a line gave this name.
+fn add_named(names: &Names, name: &str, bytes: &mut Vec<u8>) -> Result<(), Unanswered> {
+    for (known, named) in names.iter() {
+        if known.as_str() == name {
+            return Ok(bytes.extend_from_slice(named)?);
+        }
+    }
+    Err(Unanswered::BadLine)
+}
+
 fn add_part(
     alloc: Global,
     names: &Names,
@@ -38,12 +64,9 @@ fn add_part(
             Err(_) => Err(Unanswered::BadLine),
         };
     }
-    let Some(name) = part.strip_prefix("$") else {
-        return Ok(bytes.extend_from_slice(part.as_bytes())?);
-    };
-    match names.iter().find(|named| named.0.as_str() == name) {
-        Some(named) => Ok(bytes.extend_from_slice(&named.1)?),
-        None => Err(Unanswered::BadLine),
+    match part.strip_prefix("$") {
+        Some(name) => add_named(names, name, bytes),
+        None => Ok(bytes.extend_from_slice(part.as_bytes())?),
     }
 }
 
@@ -63,9 +86,25 @@ pub(crate) fn bytes_of(alloc: Global, names: &Names, word: &str) -> Result<Vec<u
 }
 
 fn is_text(bytes: &[u8]) -> bool {
-    !bytes.is_empty()
-        && !bytes.starts_with(b"0x")
-        && bytes.iter().all(|byte| byte.is_ascii_graphic() && !matches!(byte, b'+' | b'*' | b'$'))
+    if bytes.is_empty() || bytes.starts_with(b"0x") {
+        return false;
+    }
+    for byte in bytes {
+        if !byte.is_ascii_graphic() || matches!(byte, b'+' | b'*' | b'$') {
+            return false;
+        }
+    }
+    true
+}
+
+// Whether all of them are the first one.
+fn are_same(bytes: &[u8]) -> bool {
+    for byte in bytes {
+        if bytes.first() != Some(byte) {
+            return false;
+        }
+    }
+    true
 }
 
 /// The one word that answers spell these bytes with: text where all are graphic signs, else
@@ -76,7 +115,7 @@ pub(crate) struct Spelled<'a>(pub(crate) &'a [u8]);
 impl fmt::Display for Spelled<'_> {
     fn fmt<W: fmt::Write>(&self, f: &mut fmt::Formatter<W>) -> fmt::Result {
         let all = self.0;
-        let is_one = all.len() > 8 && all.iter().all(|byte| Some(byte) == all.first());
+        let is_one = all.len() > 8 && are_same(all);
         let bytes = if is_one { &all[..1] } else { all };
         if is_text(bytes) {
             for byte in bytes {

@@ -70,7 +70,7 @@ fn put_of(alloc: Global, key: u64, value: &[u8]) -> Result<Written, AllocError> 
 }
 
 pub(crate) fn key_of(alloc: Global, number: u64) -> Result<Vec<u8>, AllocError> {
-    format!(in alloc; "{number:016}").map(String::into_bytes)
+    Ok(format!(in alloc; "{number:016}")?.into_bytes())
 }
 
 // So many entries of a group, each with these bytes behind its index.
@@ -84,32 +84,109 @@ fn append_of(alloc: Global, number: u64, len: u64, value: &[u8]) -> Result<Writt
     Ok(Written::Entries(number % GROUPS, entries))
 }
 
-/// Each in a batch of its own, and after so many a sync, or never for 0.
+// Answers the bytes of the record.
+#[inline(always)]
+fn write_one<F: FileSystem>(
+    engine: &mut Engine<F>,
+    batch: &mut LogBatch,
+    written: Written,
+    sync: bool,
+) -> Result<u64, Fault> {
+    written.add_to(batch)?;
+    Ok(engine.write(batch, sync)? as u64)
+}
+
+/// Writes one after the other: how many there were, and how many bytes their records had.
+#[derive(Clone, Copy)]
+struct Writes {
+    count: u64,
+    bytes: u64,
+    /// Since when the next thousand are timed, and what the longest such took, in microseconds.
+    start: Instant,
+    longest: u64,
+}
+
+impl Writes {
+    // After so many a sync, or never for 0.
+    #[inline(always)]
+    fn write<R: Host, F: FileSystem>(
+        &mut self,
+        rt: &R,
+        engine: &mut Engine<F>,
+        batch: &mut LogBatch,
+        written: Written,
+        sync_each: u64,
+    ) -> Result<()> {
+        self.count = self.count.saturating_add(1);
+        let sync = sync_each > 0 && self.count % sync_each.max(1) == 0;
+        let len = write_one(engine, batch, written, sync)?;
+        self.bytes = self.bytes.saturating_add(len);
+        if self.count % 1000 == 0 {
+            self.longest = micros_since(rt, self.start)?.max(self.longest);
+            self.start = Instant::now(rt)?;
+        }
+        Ok(())
+    }
+}
+
+/// Each in a batch of its own.
 pub(crate) fn write_all<R: Host, F: FileSystem>(
     rt: &R,
     engine: &mut Engine<F>,
     batches: Vec<Written>,
     load: Load,
 ) -> Result<Outcome> {
+    let mut writes = Writes {
+        count: 0,
+        bytes: 0,
+        start: Instant::now(rt)?,
+        longest: 0,
+    };
     let mut batch = LogBatch::new(rt.alloc());
-    let mut bytes = 0u64;
-    let mut longest = 0;
-    let mut start = Instant::now(rt)?;
-    for (place, written) in batches.into_iter().enumerate() {
-        let number = (place as u64).saturating_add(1);
-        let sync = load.sync_each > 0 && number % load.sync_each.max(1) == 0;
-        written.add_to(&mut batch)?;
-        bytes = bytes.saturating_add(engine.write(&mut batch, sync)? as u64);
-        if number % 1000 == 0 {
-            let micros = micros_since(rt, start)?;
-            longest = micros.max(longest);
-            start = Instant::now(rt)?;
-        }
+    for written in batches {
+        writes.write(rt, engine, &mut batch, written, load.sync_each)?;
     }
     Ok(Outcome {
-        longest: Some(("thousand", longest)),
-        ..Outcome::new(load.count, bytes, Against::Records, Figure::Nothing)
+        longest: Some(("thousand", writes.longest)),
+        ..Outcome::new(load.count, writes.bytes, Against::Records, Figure::Nothing)
     })
+}
+
+/// Writes with purges between them: the bytes of their records, of all and since the last purge,
+/// how often it was purged, what the longest call of a purge took, in microseconds, and the most
+/// bytes that the log files had.
+#[derive(Clone, Copy)]
+struct PurgedWrites {
+    bytes: u64,
+    since: u64,
+    purges: u64,
+    longest: u64,
+    most_used: usize,
+}
+
+impl PurgedWrites {
+    // After so many bytes a purge.
+    #[inline(always)]
+    fn write<R: Host, F: FileSystem>(
+        &mut self,
+        rt: &R,
+        engine: &mut Engine<F>,
+        batch: &mut LogBatch,
+        written: Written,
+        purge_each: u64,
+        load: Load,
+    ) -> Result<()> {
+        let len = write_one(engine, batch, written, false)?;
+        self.bytes = self.bytes.saturating_add(len);
+        self.since = self.since.saturating_add(len);
+        if self.since >= purge_each {
+            self.most_used = engine.get_used_size().max(self.most_used);
+            self.longest = purge(rt, engine, load)?.max(self.longest);
+            self.purges = self.purges.saturating_add(1);
+            self.since = 0;
+        }
+        Ok(())
+    }
 }
 
 /// Each in a batch of its own, and a purge by watermarks, if any, after as many bytes as a log file
@@ -126,29 +203,22 @@ pub(crate) fn write_beside_purges<R: Host, F: FileSystem>(
         _ => load.file_size,
     };
     let mut batch = LogBatch::new(rt.alloc());
-    let mut bytes = 0u64;
-    let mut since = 0u64;
-    let mut purges = 0u64;
-    let mut longest = 0;
-    let mut most_used = 0;
+    let mut writes = PurgedWrites {
+        bytes: 0,
+        since: 0,
+        purges: 0,
+        longest: 0,
+        most_used: 0,
+    };
     for written in batches {
-        written.add_to(&mut batch)?;
-        let len = engine.write(&mut batch, false)? as u64;
-        bytes = bytes.saturating_add(len);
-        since = since.saturating_add(len);
-        if since >= purge_each {
-            most_used = engine.get_used_size().max(most_used);
-            longest = purge(rt, engine, load)?.max(longest);
-            purges = purges.saturating_add(1);
-            since = 0;
-        }
+        writes.write(rt, engine, &mut batch, written, purge_each, load)?;
     }
-    most_used = engine.get_used_size().max(most_used);
+    let most_used = engine.get_used_size().max(writes.most_used);
     let used = Figure::Count(most_used as u64, "bytes of files at most");
     Ok(Outcome {
-        figures: [Figure::Count(purges, "purges"), used],
-        longest: Some(("purge call", longest)),
-        ..Outcome::new(load.count, bytes, Against::Records, Figure::Nothing)
+        figures: [Figure::Count(writes.purges, "purges"), used],
+        longest: Some(("purge call", writes.longest)),
+        ..Outcome::new(load.count, writes.bytes, Against::Records, Figure::Nothing)
     })
 }
 

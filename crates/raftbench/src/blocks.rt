@@ -16,7 +16,7 @@ enum Pass {
     Append,
 }
 
-const PASSES: [(&str, Pass); 4] = [
+static PASSES: [(&str, Pass); 4] = [
     ("  ceiling, copy", Pass::Copy),
     ("  ceiling, crc", Pass::Sum),
     ("  ceiling, in one place", Pass::InPlace),
@@ -64,20 +64,26 @@ pub(crate) fn add_ceilings<R: Host>(
     };
     let bytes = count.saturating_mul(size as u64);
     let outcome = Outcome::new(count, bytes, against, Figure::Nothing);
-    for (name, pass) in PASSES {
-        let watch = Stopwatch::start(rt)?;
-        blocks.pass(pass, count)?;
-        let ceiling = watch.stop(rt, name, outcome)?;
-        match against {
-            Against::Records => report.records.push(ceiling)?,
-            Against::Values => report.values.push(ceiling)?,
-        }
-    }
+    add_passes(rt, report, &mut blocks, outcome)?;
     let last = blocks.copies.last().copied().unwrap_or(0);
     report.checksum = then_sum(report.checksum, &blocks.sum.to_be_bytes()).wrapping_add(
         last as u32,
     );
     Ok(blocks.sum)
+}
+
+fn add_passes<R: Host>(
+    rt: &R,
+    report: &mut Report,
+    blocks: &mut Blocks,
+    outcome: Outcome,
+) -> Result<()> {
+    for (name, pass) in &PASSES {
+        let watch = Stopwatch::start(rt)?;
+        blocks.pass(*pass, outcome.count)?;
+        report.add_ceiling(watch.stop(rt, *name, outcome)?)?;
+    }
+    Ok(())
 }
 
 /// The sum of the blocks before, and of this one.

@@ -6,7 +6,7 @@ use crate::workload::{GROUPS, Load};
 use anyhow::Result;
 use raft_env::FileSystem;
 use raft_log_engine::Engine;
-use raft_records::LogBatch;
+use raft_records::{Fault, LogBatch};
 use std::alloc::{AllocError, Global};
 
 // Keys in no order.
@@ -17,6 +17,19 @@ fn key_of(alloc: Global, number: u64) -> Result<Vec<u8>, AllocError> {
     key.extend_from_slice(&spread.to_le_bytes())?;
     key.extend_from_slice(&number.to_le_bytes())?;
     Ok(key)
+}
+
+// A put of this key into the group whose turn it is.
+#[inline(always)]
+fn put(
+    alloc: Global,
+    batch: &mut LogBatch,
+    turn: u64,
+    number: u64,
+    value: &[u8],
+) -> Result<(), Fault> {
+    let key = key_of(alloc, number)?;
+    batch.put(turn % GROUPS + 1, key, value.to_vec(alloc)?)
 }
 
 /// Puts of one key a batch, or of several, which are other keys. What the last batch would have
@@ -32,8 +45,7 @@ pub(crate) fn put_each<F: FileSystem>(
     let mut batch = LogBatch::new(alloc);
     let mut bytes = 0u64;
     for turn in 0..load.count {
-        let key = key_of(alloc, first.saturating_add(turn))?;
-        batch.put(turn % GROUPS + 1, key, value.to_vec(alloc)?)?;
+        put(alloc, &mut batch, turn, first.saturating_add(turn), value)?;
         if turn.saturating_add(1) % batch_len.max(1) == 0 {
             bytes = bytes.saturating_add(engine.write(&mut batch, false)? as u64);
         }

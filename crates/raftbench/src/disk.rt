@@ -13,7 +13,7 @@ use std::fs::{self, File};
 use std::io::Write;
 
 /// The workloads, and after how many puts each syncs; 0: never.
-const WORKLOADS: [(&str, u64); 4] = [
+static WORKLOADS: [(&str, u64); 4] = [
     ("disk-sync-1", 1),
     ("disk-sync-10", 10),
     ("disk-sync-100", 100),
@@ -25,16 +25,20 @@ const BARE: &str = "  ceiling, bare calls";
 
 /// Does each workload in a new folder below this one, and then opens the last of them again.
 pub(crate) fn run_in(rt: HostRuntime, folder: &str, amount: Amount) -> Result<()> {
-    for (name, sync_each) in WORKLOADS {
-        let load = puts(name, amount, sync_each);
+    for (name, sync_each) in &WORKLOADS {
         let place = format!(in rt.alloc(); "{folder}/{name}")?;
-        let mut report = Report::new(&rt);
-        run_folder(rt, &mut report, place.as_str(), load, None)?;
-        let bare = write_bare(&rt, place.as_str(), load, report.written().unwrap_or(0))?;
-        report.records.push(bare)?;
-        report.print(&rt)?;
+        run_puts(rt, place.as_str(), puts(*name, amount, *sync_each))?;
     }
     reopen(rt, folder, amount)
+}
+
+// Bare are writes of as many bytes beside the folder.
+fn run_puts(rt: HostRuntime, place: &str, load: Load) -> Result<()> {
+    let mut report = Report::new(&rt);
+    run_folder(rt, &mut report, place, load, None)?;
+    let bare = write_bare(&rt, place, load, report.written().unwrap_or(0))?;
+    report.records.push(bare)?;
+    report.print(&rt)
 }
 
 fn puts(name: &'static str, amount: Amount, sync_each: u64) -> Load {
@@ -50,19 +54,27 @@ fn puts(name: &'static str, amount: Amount, sync_each: u64) -> Load {
     }
 }
 
-// Bare is one read of the log file.
 fn reopen(rt: HostRuntime, folder: &str, amount: Amount) -> Result<()> {
     let place = format!(in rt.alloc(); "{folder}/disk-none")?;
-    let log = format!(in rt.alloc(); "{place}/bench/0000000000000001.raftlog")?;
-    let watch = Stopwatch::start(&rt)?;
-    let bytes = fs::read(&rt, log.as_str())?.len() as u64;
-    let outcome = Outcome::new(amount.count, bytes, Against::Records, Figure::Nothing);
-    let bare = watch.stop(&rt, BARE, outcome)?;
+    let bare = read_bare(&rt, place.as_str(), amount)?;
+    run_opening(rt, place.as_str(), bare, amount)
+}
+
+fn run_opening(rt: HostRuntime, place: &str, bare: Measure, amount: Amount) -> Result<()> {
     let mut report = Report::new(&rt);
     report.records.push(bare)?;
     let load = puts("disk-open", amount, 0);
-    run_folder(rt, &mut report, place.as_str(), load, Some(outcome))?;
+    run_folder(rt, &mut report, place, load, Some(bare.outcome))?;
     report.print(&rt)
+}
+
+// One read of the log file.
+fn read_bare(rt: &HostRuntime, place: &str, amount: Amount) -> Result<Measure> {
+    let log = format!(in rt.alloc(); "{place}/bench/0000000000000001.raftlog")?;
+    let watch = Stopwatch::start(rt)?;
+    let bytes = fs::read(rt, log.as_str())?.len() as u64;
+    let outcome = Outcome::new(amount.count, bytes, Against::Records, Figure::Nothing);
+    watch.stop(rt, BARE, outcome)
 }
 
 fn run_folder(
@@ -89,10 +101,12 @@ fn run_over<F: FileSystem + Drop>(
     opening: Option<Outcome>,
 ) -> Result<()> {
     let mut engine = open(rt.alloc(), files, load)?;
-    match opening {
+    let done = match opening {
         Some(outcome) => report.add(rt, watch, load.name, outcome),
         None => run_parts(rt, report, &mut engine, load),
-    }
+    };
+    engine.give_up();
+    done
 }
 
 // As many bytes at the end of a new file: a write, and a sync where there is one, for the puts that

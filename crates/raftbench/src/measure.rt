@@ -4,6 +4,7 @@
 
 use crate::system::{page_faults, value_of};
 use anyhow::Result;
+use std::alloc::AllocError;
 use std::io;
 use std::rt::{Clock, Files};
 use std::thread::Threads;
@@ -141,6 +142,14 @@ impl Report {
         self.parts.push(watch.stop(rt, name, outcome)?)?;
         self.memory = value_of(rt, "/proc/self/status", "VmHWM");
         Ok(())
+    }
+
+    /// Adds a ceiling to those that it stands with.
+    pub(crate) fn add_ceiling(&mut self, ceiling: Measure) -> Result<(), AllocError> {
+        match ceiling.outcome.against {
+            Against::Records => Ok(self.records.push(ceiling)?),
+            Against::Values => Ok(self.values.push(ceiling)?),
+        }
     }
 
     /// The bytes of the records that the first part wrote.

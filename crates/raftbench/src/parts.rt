@@ -103,13 +103,25 @@ pub(crate) fn run_parts<R: Host, F: FileSystem>(
     load: Load,
 ) -> Result<()> {
     for (name, part) in parts_of(load.kind) {
-        let mut data = data_of(rt.alloc(), engine, *part, load)?;
-        let watch = Stopwatch::start(rt)?;
-        let outcome = perform(rt, engine, *part, &mut data, load)?;
         let name = if name.is_empty() { load.name } else { *name };
-        report.add(rt, watch, name, outcome)?;
+        let mut data = data_of(rt.alloc(), engine, *part, load)?;
+        time(rt, report, engine, name, *part, &mut data, load)?;
     }
     Ok(())
+}
+
+fn time<R: Host, F: FileSystem>(
+    rt: &R,
+    report: &mut Report,
+    engine: &mut Engine<F>,
+    name: &'static str,
+    part: Part,
+    data: &mut Data,
+    load: Load,
+) -> Result<()> {
+    let watch = Stopwatch::start(rt)?;
+    let outcome = perform(rt, engine, part, data, load)?;
+    report.add(rt, watch, name, outcome)
 }
 
 // Made before the clock starts.

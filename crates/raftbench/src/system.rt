@@ -11,8 +11,7 @@ pub(crate) fn print_system<R: Host>(rt: &R) -> Result<()> {
         eprint!(rt; " {model},")?;
     }
     if let Ok(text) = fs::read_to_string(rt, "/proc/cpuinfo") {
-        let lines = text.as_str().lines();
-        let count = lines.filter(|line| line.starts_with("processor")).count();
+        let count = count_lines(text.as_str(), "processor");
         eprint!(rt; " {count} processors,")?;
     }
     if let Some(memory) = value_of(rt, "/proc/meminfo", "MemTotal") {
@@ -23,6 +22,17 @@ pub(crate) fn print_system<R: Host>(rt: &R) -> Result<()> {
     }
     eprintln!(rt; "")?;
     Ok(())
+}
+
+// How many lines begin so.
+fn count_lines(text: &str, start: &str) -> u64 {
+    let mut count = 0u64;
+    for line in text.lines() {
+        if line.starts_with(start) {
+            count = count.saturating_add(1);
+        }
+    }
+    count
 }
 
 /// What stands after the colon of a file's first line that begins so.

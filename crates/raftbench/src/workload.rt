@@ -3,10 +3,11 @@
 use crate::blocks::add_ceilings;
 use crate::files::append;
 use crate::log::{close_and_open, open, put_get_shared};
-use crate::measure::{Against, Report, WorkersHost};
+use crate::measure::{Against, Host, Report, WorkersHost};
 use crate::parts::run_parts;
 use anyhow::{Result, bail};
 use raft_env::FileSystem;
+use raft_log_engine::Engine;
 use raft_memory::MemoryFileSystem;
 
 /// How many operations, and of how many bytes.
@@ -221,15 +222,20 @@ fn batch_len(bytes: u64, amount: Amount) -> u64 {
 fn run_over<R: WorkersHost, F: FileSystem + Drop>(rt: &R, files: F, load: Load) -> Result<()> {
     let mut report = Report::new(rt);
     run_kind(rt, &mut report, files, load)?;
+    add_all_ceilings(rt, &mut report, load)?;
+    report.print(rt)
+}
+
+fn add_all_ceilings<R: Host>(rt: &R, report: &mut Report, load: Load) -> Result<()> {
     if let Some(bytes) = report.written() {
         let len = (bytes / load.count.max(1)) as usize;
-        add_ceilings(rt, &mut report, Against::Records, load.count, len)?;
+        add_ceilings(rt, report, Against::Records, load.count, len)?;
     }
-    let sum = add_ceilings(rt, &mut report, Against::Values, load.count, load.size)?;
+    let sum = add_ceilings(rt, report, Against::Values, load.count, load.size)?;
     if let Kind::Blocks = load.kind {
         println!(rt; "{}: {} bytes, checksum {sum:08x}", load.name, load.bytes())?;
     }
-    report.print(rt)
+    Ok(())
 }
 
 fn run_kind<R: WorkersHost, F: FileSystem + Drop>(
@@ -244,11 +250,29 @@ fn run_kind<R: WorkersHost, F: FileSystem + Drop>(
         _ => {}
     }
     let mut engine = open(rt.alloc(), files, load)?;
-    run_parts(rt, report, &mut engine, load)?;
+    match run_parts(rt, report, &mut engine, load) {
+        Ok(()) => run_end(rt, report, engine, load),
+        Err(error) => {
+            engine.give_up();
+            Err(error)
+        }
+    }
+}
+
+// What a workload does with the engine behind its parts.
+fn run_end<R: WorkersHost, F: FileSystem + Drop>(
+    rt: &R,
+    report: &mut Report,
+    engine: Engine<F>,
+    load: Load,
+) -> Result<()> {
     match load.kind {
         Kind::PutsShared => put_get_shared(rt, report, engine, load),
         Kind::Puts(_) | Kind::PutsInNoOrder => close_and_open(rt, report, engine, load, 1),
         Kind::Openings(_) => close_and_open(rt, report, engine, load, 4),
-        _ => Ok(()),
+        _ => {
+            engine.give_up();
+            Ok(())
+        }
     }
 }

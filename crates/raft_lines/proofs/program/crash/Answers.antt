@@ -8,11 +8,11 @@ use Rattle.raft_script.proofs.TrialLemmas.{same_folders}
 use Rattle.raft_lines.specs.Program.{HoldsAfterCrash, IsCrashFault, IsNewWith, IsOpeningFault}
 use Rattle.raft_lines.proofs.program.crash.Goals as goal
 
-pub give_up-requires-send-F : goal.give_up-requires-send-F
-give_up-requires-send-F c = λ κs. search (sendable, memory_send) depth 20
+pub give_up-whole-requires-send-F : goal.give_up-whole-requires-send-F
+give_up-whole-requires-send-F c = λ κs. search (sendable, memory_send) depth 20
 
-pub give_up-requires-sync-F : goal.give_up-requires-sync-F
-give_up-requires-sync-F c = λ κs. search (sendable, memory_sync) depth 20
+pub give_up-whole-requires-sync-F : goal.give_up-whole-requires-sync-F
+give_up-whole-requires-sync-F c = λ κs. search (sendable, memory_sync) depth 20
 
 pub open_again-requires-send-F : goal.open_again-requires-send-F
 open_again-requires-send-F c = λ κs. search (sendable, memory_send) depth 20
@@ -28,8 +28,8 @@ returns-in-Ok c =
     let copy = c.in_ok-copy.copy in
     let is = c.in_ok-copy.ensures.value in
     let dir = folders_in copy in
-    let n = memory_directory c.give_up.result in
-    let n_is = c.give_up.ensures.unchanged.0 in
+    let n = memory_directory c.give_up-whole.result in
+    let n_is = c.give_up-whole.ensures.unchanged.0 in
     let m = memory_directory c.in-Ok.files in
     let left = c.in-Ok.ensures.value in
     record {

@@ -1,8 +1,9 @@
-use Rattle.raft_lines.proofs.LineReadingLemmas.{ends_early, reading_begun}
+use denote.Param.Send.{sendable}
+use Rattle.raft_memory.proofs.Sent.{memory_send, memory_sync}
 use Rattle.raft_lines.proofs.program.serve_lines.Goals as goal
 
-pub loop-number-init : goal.loop-number-init
-loop-number-init g c = reading_begun _ _ c.new-settings.ensures.read
+pub let_go-requires-send-F : goal.let_go-requires-send-F
+let_go-requires-send-F g c = λ κs. search (sendable, memory_send) depth 20
 
-pub returns : goal.returns
-returns g c = record { lines = ends_early (g.R.Read.remaining c.args.input.now) }
+pub let_go-requires-sync-F : goal.let_go-requires-sync-F
+let_go-requires-sync-F g c = λ κs. search (sendable, memory_sync) depth 20

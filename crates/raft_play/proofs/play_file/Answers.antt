@@ -1,6 +1,6 @@
 use denote.Param.Send.{sendable}
 use Rattle.raft_memory.proofs.Sent.{memory_send, memory_sync}
-use Rattle.raft_play.proofs.main.Goals as goal
+use Rattle.raft_play.proofs.play_file.Goals as goal
 
 pub play-requires-send-F : goal.play-requires-send-F
 play-requires-send-F c = λ κs. search (sendable, memory_send) depth 20
