@@ -1,11 +1,11 @@
 //! Batches, and the records that are encoded for them: laid out by hand, with checksums by Python's zlib.
 
 use crate::changes::{Change, add, are_items, is_joined};
+use crate::told::assert_row;
 use raft_records::{
     Fault, FileBlockHandle, FileId, Fresh, LogBatch, LogFileContext, LogQueue, Version,
 };
 use std::alloc::Global;
-use std::test::Fail;
 
 enum Step {
     Add(Change),
@@ -178,9 +178,8 @@ fn is_played(alloc: Global, script: &Script) -> Result<bool, Fault> {
 }
 
 #[test]
-fn batches_are_encoded_and_moved(rt: HostRuntime) -> Result<(), Fail> {
+fn batches_are_encoded_and_moved(rt: HostRuntime) {
     for script in &SCRIPTS {
-        assert!(rt; is_played(rt.alloc(), script)?, "{}", script.name);
+        assert_row(&rt, is_played(rt.alloc(), script), script.name);
     }
-    Ok(())
 }

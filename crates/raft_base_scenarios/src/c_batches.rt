@@ -1,20 +1,11 @@
 //! Batches that are read from bytes, and bytes that are none.
 
+use crate::items::{Part as Wanted, batch_of, have_same_bytes};
+use crate::told::assert_rows;
 use raft_c_batch::{BatchFault, add_items};
-use raft_records::{Command, EntryIndex, Fault, LogBatch};
-use raft_rows::{Row, first_wrong};
+use raft_records::{Fault, LogBatch};
+use raft_rows::Row;
 use std::alloc::Global;
-use std::test::Fail;
-
-/// An item of a batch.
-enum Wanted {
-    Put(u64, &'static [u8], &'static [u8]),
-    Delete(u64, &'static [u8]),
-    /// Entries that follow on an index, each with its bytes.
-    Entries(u64, u64, &'static [&'static [u8]]),
-    Clean(u64),
-    Compact(u64, u64),
-}
 
 /// Bytes, and the items that are read from them.
 struct Read(&'static [u8], &'static [Wanted]);
@@ -41,54 +32,10 @@ static READ: [Read; 3] = [
     ),
 ];
 
-fn add_entries(
-    alloc: Global,
-    batch: &mut LogBatch,
-    group: u64,
-    first: u64,
-    entries: &[&'static [u8]],
-) -> Result<(), Fault> {
-    let mut indexes = Vec::new(alloc);
-    let mut bytes = Vec::new(alloc);
-    let mut index = first;
-    for entry in entries {
-        indexes.push(EntryIndex {
-            index,
-            entries: None,
-            entry_offset: 0,
-            entry_len: 0,
-            lz4: false,
-        })?;
-        bytes.push(entry.to_vec(alloc)?)?;
-        index = index.wrapping_add(1);
-    }
-    batch.add_raw_entries(group, indexes, bytes)
-}
-
-fn add(alloc: Global, batch: &mut LogBatch, wanted: &Wanted) -> Result<(), Fault> {
-    match wanted {
-        Wanted::Put(group, key, value) => {
-            batch.put(*group, key.to_vec(alloc)?, value.to_vec(alloc)?)
-        }
-        Wanted::Delete(group, key) => batch.delete(*group, key.to_vec(alloc)?),
-        Wanted::Entries(group, first, entries) => {
-            add_entries(alloc, batch, *group, *first, entries)
-        }
-        Wanted::Clean(group) => batch.add_command(*group, Command::Clean),
-        Wanted::Compact(group, index) => {
-            batch.add_command(*group, Command::Compact { index: *index })
-        }
-    }
-}
-
 impl Row for Read {
     type State = ();
 
     fn holds(&self, alloc: Global, _: &mut ()) -> Result<bool, Fault> {
-        let mut wanted = LogBatch::new(alloc);
-        for item in self.1 {
-            add(alloc, &mut wanted, item)?;
-        }
         let mut batch = LogBatch::new(alloc);
         if add_items(alloc, &mut batch, self.0).is_err() {
             return Ok(false);
@@ -96,16 +43,14 @@ impl Row for Read {
         if self.1.is_empty() {
             return Ok(batch.is_empty());
         }
-        wanted.finish_populate()?;
-        batch.finish_populate()?;
-        Ok(batch.encoded_bytes() == wanted.encoded_bytes())
+        let mut wanted = batch_of(alloc, self.1)?;
+        have_same_bytes(&mut batch, &mut wanted)
     }
 }
 
 #[test]
-fn batches_are_read(rt: HostRuntime) -> Result<(), Fail> {
-    assert_eq!(rt; first_wrong(rt.alloc(), &mut (), &READ)?, None);
-    Ok(())
+fn batches_are_read(rt: HostRuntime) {
+    assert_rows(&rt, rt.alloc(), &mut (), &READ);
 }
 
 /// Bytes from which no batch is read, and the code of the fault where they are one's.
@@ -153,7 +98,6 @@ impl Row for Refused {
 }
 
 #[test]
-fn bytes_are_refused(rt: HostRuntime) -> Result<(), Fail> {
-    assert_eq!(rt; first_wrong(rt.alloc(), &mut (), &REFUSED)?, None);
-    Ok(())
+fn bytes_are_refused(rt: HostRuntime) {
+    assert_rows(&rt, rt.alloc(), &mut (), &REFUSED);
 }

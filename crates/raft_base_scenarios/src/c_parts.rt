@@ -1,10 +1,10 @@
 //! Answers as bytes.
 
+use crate::told::assert_rows;
 use raft_c_batch::{Entry, push_entries, push_numbers, push_pair};
 use raft_records::Fault;
-use raft_rows::{Row, first_wrong};
+use raft_rows::Row;
 use std::alloc::Global;
-use std::test::Fail;
 
 /// What an answer has.
 enum Part {
@@ -55,7 +55,6 @@ impl Row for Pushed {
 }
 
 #[test]
-fn answers_are_pushed(rt: HostRuntime) -> Result<(), Fail> {
-    assert_eq!(rt; first_wrong(rt.alloc(), &mut (), &PUSHED)?, None);
-    Ok(())
+fn answers_are_pushed(rt: HostRuntime) {
+    assert_rows(&rt, rt.alloc(), &mut (), &PUSHED);
 }

@@ -2,11 +2,11 @@
 
 use crate::asks::Ask;
 use crate::tables::apply_one;
+use crate::told::assert_rows;
 use raft_records::{Fault, FileId, LogQueue};
-use raft_rows::{Row, first_wrong};
+use raft_rows::Row;
 use raft_tables::{GlobalStats, MemTables};
 use std::alloc::Global;
-use std::test::Fail;
 
 enum Count {
     Add(LogQueue, u64),
@@ -44,10 +44,9 @@ impl Row for Counter {
 }
 
 #[test]
-fn what_was_rewritten_is_counted(rt: HostRuntime) -> Result<(), Fail> {
+fn what_was_rewritten_is_counted(rt: HostRuntime) {
     let mut stats = GlobalStats::new();
-    assert_eq!(rt; first_wrong(rt.alloc(), &mut stats, &COUNTS)?, None);
-    Ok(())
+    assert_rows(&rt, rt.alloc(), &mut stats, &COUNTS);
 }
 
 /// The queue of the file in which an item of group 1 stands, the item, and how many entries and
@@ -88,8 +87,7 @@ impl Row for Counted {
 }
 
 #[test]
-fn what_leaves_the_rewrite_queue_is_counted(rt: HostRuntime) -> Result<(), Fail> {
+fn what_leaves_the_rewrite_queue_is_counted(rt: HostRuntime) {
     let mut state = (MemTables::new(rt.alloc()), GlobalStats::new());
-    assert_eq!(rt; first_wrong(rt.alloc(), &mut state, &COUNTED)?, None);
-    Ok(())
+    assert_rows(&rt, rt.alloc(), &mut state, &COUNTED);
 }

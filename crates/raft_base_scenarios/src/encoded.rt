@@ -2,11 +2,12 @@
 
 ghost use Rattle.std.specs.Prelude.{◌≡◌, [], ◌∷◌};
 
+use crate::items::{have_same_bytes, push_entry};
 use crate::record_rows::{DecodedRecord, WantedItem, decoded};
 use crate::records::items_of;
+use crate::told::assert_row;
 use raft_records::{Command, EntryIndex, Fault, FileBlockHandle, LogBatch, Message, MessageExt};
 use std::alloc::{AllocError, Global};
-use std::test::Fail;
 
 fn index_at(index: u64) -> EntryIndex {
     EntryIndex {
@@ -28,10 +29,9 @@ fn add_entries(
     let mut indexes = Vec::new(alloc);
     let mut bytes = Vec::new(alloc);
     for (index, offset, len) in entries {
-        indexes.push(index_at(*index))?;
         let (_, rest) = block.split_at((*offset as usize).min(block.len()));
         let (entry, _) = rest.split_at((*len as usize).min(rest.len()));
-        bytes.push(entry.to_vec(alloc)?)?;
+        push_entry(alloc, &mut indexes, &mut bytes, index_at(*index), entry)?;
     }
     batch.add_raw_entries(group, indexes, bytes)
 }
@@ -58,12 +58,18 @@ fn add(
 /// No batch of a caller holds an item of no entries, the mark of an atomic group or a compressed
 /// block.
 fn is_encoded(record: &DecodedRecord) -> bool {
+    for item in record.items {
+        let holds = match item {
+            WantedItem::Entries(_, entries) => !entries.is_empty(),
+            WantedItem::Put(_, key, _) => !key.starts_with(b"__"),
+            _ => true,
+        };
+        if !holds {
+            return false;
+        }
+    }
     let (_, _, lz4) = record.block;
-    !lz4 && record.items.iter().all(|item| match item {
-        WantedItem::Entries(_, entries) => !entries.is_empty(),
-        WantedItem::Put(_, key, _) => !key.starts_with(b"__"),
-        _ => true,
-    })
+    !lz4
 }
 
 fn batch_of(alloc: Global, record: &DecodedRecord) -> Result<LogBatch, Fault> {
@@ -104,13 +110,12 @@ fn comes_to(alloc: Global, record: &DecodedRecord) -> Result<bool, Fault> {
 }
 
 #[test]
-fn decoded_records_are_encoded(rt: HostRuntime) -> Result<(), Fail> {
+fn decoded_records_are_encoded(rt: HostRuntime) {
     for table in &decoded() {
         for record in *table {
-            assert!(rt; comes_to(rt.alloc(), record)?, "{}", record.name);
+            assert_row(&rt, comes_to(rt.alloc(), record), record.name);
         }
     }
-    Ok(())
 }
 
 /// The indexes of each item's entries, and how the batch comes to no record.
@@ -157,8 +162,7 @@ fn add_indexes(alloc: Global, batch: &mut LogBatch, indexes: &[u64]) -> Result<(
     let mut entries = Vec::new(alloc);
     let mut bytes = Vec::new(alloc);
     for index in indexes {
-        entries.push(index_at(*index))?;
-        bytes.push(b"e".to_vec(alloc)?)?;
+        push_entry(alloc, &mut entries, &mut bytes, index_at(*index), b"e")?;
     }
     batch.add_raw_entries(1, entries, bytes)
 }
@@ -180,11 +184,10 @@ fn is_no_record(alloc: Global, no_record: &NoRecord) -> Result<bool, Fault> {
 }
 
 #[test]
-fn entries_out_of_order_are_refused(rt: HostRuntime) -> Result<(), Fail> {
+fn entries_out_of_order_are_refused(rt: HostRuntime) {
     for no_record in &NO_RECORDS {
-        assert!(rt; is_no_record(rt.alloc(), no_record)?, "{}", no_record.name);
+        assert_row(&rt, is_no_record(rt.alloc(), no_record), no_record.name);
     }
-    Ok(())
 }
 
 // Whether an index without its entry is refused.
@@ -207,9 +210,8 @@ fn is_left_empty(alloc: Global) -> Result<bool, Fault> {
 }
 
 #[test]
-fn lists_of_different_lengths_are_refused(rt: HostRuntime) -> Result<(), Fail> {
-    assert!(rt; is_left_empty(rt.alloc())?);
-    Ok(())
+fn lists_of_different_lengths_are_refused(rt: HostRuntime) {
+    assert_row(&rt, is_left_empty(rt.alloc()), "an index without its entry");
 }
 
 /// An entry of one byte, which is its index.
@@ -260,21 +262,20 @@ fn add_bytes(alloc: Global, batch: &mut LogBatch) -> Result<(), Fault> {
 fn are_same(alloc: Global) -> Result<bool, Fault> {
     let mut batch = LogBatch::new(alloc);
     add_messages(alloc, &mut batch)?;
-    batch.finish_populate()?;
     let mut raw = LogBatch::new(alloc);
     add_bytes(alloc, &mut raw)?;
-    raw.finish_populate()?;
-    Ok(batch.encoded_bytes() == raw.encoded_bytes())
+    have_same_bytes(&mut batch, &mut raw)
 }
 
 fn are_parsed(alloc: Global) -> bool {
-    Byte::parse(alloc, b"v").is_ok_and(|byte| byte.0 == b'v')
-        && Byte::parse(alloc, b"vw").is_err_and(|fault| fault.code() == 10)
+    match (Byte::parse(alloc, b"v"), Byte::parse(alloc, b"vw")) {
+        (Ok(byte), Err(fault)) => byte.0 == b'v' && fault.code() == 10,
+        _ => false,
+    }
 }
 
 #[test]
-fn messages_are_stored_as_their_bytes(rt: HostRuntime) -> Result<(), Fail> {
-    assert!(rt; are_same(rt.alloc())?);
+fn messages_are_stored_as_their_bytes(rt: HostRuntime) {
+    assert_row(&rt, are_same(rt.alloc()), "their bytes");
     assert!(rt; are_parsed(rt.alloc()));
-    Ok(())
 }

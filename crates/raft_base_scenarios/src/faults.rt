@@ -1,10 +1,10 @@
 //! The texts of faults, and values that a factory makes.
 ghost use Rattle.std.specs.Prelude.{◌≡◌, []};
 
+use crate::told::{assert_row, assert_rows};
 use raft_records::{Factory, Fault, IoKind, LogBatch};
-use raft_rows::{Row, first_wrong};
+use raft_rows::Row;
 use std::alloc::Global;
-use std::test::Fail;
 
 /// The code of a fault, and its text.
 struct Text(u8, &'static str);
@@ -65,9 +65,8 @@ impl Row for Text {
 }
 
 #[test]
-fn faults_have_texts(rt: HostRuntime) -> Result<(), Fail> {
-    assert_eq!(rt; first_wrong(rt.alloc(), &mut (), &TEXTS)?, None);
-    Ok(())
+fn faults_have_texts(rt: HostRuntime) {
+    assert_rows(&rt, rt.alloc(), &mut (), &TEXTS);
 }
 
 #[derive(Drop)]
@@ -87,9 +86,12 @@ fn made<T, F: Factory<T>>(factory: &F) -> Result<T, Fault> {
     factory.new_target()
 }
 
+fn makes_an_empty_batch(alloc: Global) -> Result<bool, Fault> {
+    let batch: LogBatch = made(&Batches { alloc })?;
+    Ok(batch.is_empty())
+}
+
 #[test]
-fn factories_make_values(rt: HostRuntime) -> Result<(), Fail> {
-    let batch: LogBatch = made(&Batches { alloc: rt.alloc() })?;
-    assert!(rt; batch.is_empty());
-    Ok(())
+fn factories_make_values(rt: HostRuntime) {
+    assert_row(&rt, makes_an_empty_batch(rt.alloc()), "a batch");
 }

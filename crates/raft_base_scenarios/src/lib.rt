@@ -20,6 +20,8 @@ mod encoded;
 #[cfg(test)]
 mod faults;
 #[cfg(test)]
+mod items;
+#[cfg(test)]
 mod laws;
 #[cfg(test)]
 mod listeners;
@@ -50,3 +52,5 @@ mod sizes;
 pub mod syncs;
 #[cfg(test)]
 mod tables;
+#[cfg(test)]
+mod told;

@@ -1,10 +1,11 @@
 //! Listeners: what they hear, and what they keep from a purge.
 
-use raft_base::{FileBlockHandle, FileId, FileSeq, LogQueue};
+use crate::told::assert_row;
+use raft_base::{Fault, FileBlockHandle, FileId, FileSeq, LogQueue};
 use raft_listeners::{Event, EventListener, Listeners};
+use std::alloc::Global;
 use std::sync::Arc;
 use std::sync::atomic::{AtomicU64, Ordering};
-use std::test::Fail;
 
 /// Notes a digit for each call, and keeps one file.
 #[derive(Drop)]
@@ -53,33 +54,39 @@ fn block(seq: FileSeq) -> FileBlockHandle {
     }
 }
 
-#[test]
-fn each_listener_hears_each_event_in_order(rt: HostRuntime) -> Result<(), Fail> {
-    let alloc = rt.alloc();
-    let heard = Arc::new(alloc, AtomicU64::new(0))?;
-    let mut given: Vec<Box<dyn EventListener + Send>> = Vec::new(alloc);
-    given.push(Box::new(
-        alloc,
-        Counting {
-            heard: Arc::try_clone(&heard)?,
-            kept: None,
-        },
-    )?)?;
-    given.push(Box::new(
-        alloc,
-        Counting {
-            heard: Arc::try_clone(&heard)?,
-            kept: Some(2),
-        },
-    )?)?;
-    let mut listeners = Listeners::new(alloc, given);
+// A listener that notes there what it hears, and keeps that file.
+fn noting(
+    alloc: Global,
+    heard: &Arc<AtomicU64>,
+    kept: Option<FileSeq>,
+) -> Result<Box<Counting>, Fault> {
+    let heard = Arc::try_clone(heard)?;
+    Ok(Box::new(alloc, Counting { heard, kept })?)
+}
+
+// What keeps files before the record of file 3 is applied, and after it.
+fn barriers(listeners: &mut Listeners) -> Result<(FileSeq, FileSeq), Fault> {
     listeners.make_room(3)?;
     listeners.tell_files(LogQueue::Append, 1, 4);
     listeners.tell(Event::Append(block(3)));
-    assert!(&rt; listeners.barrier(3) == 2);
+    let before = listeners.barrier(3);
     listeners.tell(Event::Apply(FileId::new(LogQueue::Append, 3)));
     listeners.tell(Event::Purge(FileId::new(LogQueue::Append, 1)));
-    assert!(&rt; listeners.barrier(3) == 2);
-    assert!(&rt; heard.load(Ordering::SeqCst) == 111_111_223_344);
-    Ok(())
+    Ok((before, listeners.barrier(3)))
+}
+
+// Whether two listeners, of which the second keeps a file, hear each event in order.
+fn is_heard(alloc: Global) -> Result<bool, Fault> {
+    let heard = Arc::new(alloc, AtomicU64::new(0))?;
+    let mut given: Vec<Box<dyn EventListener + Send>> = Vec::new(alloc);
+    given.push(noting(alloc, &heard, None)?)?;
+    given.push(noting(alloc, &heard, Some(2))?)?;
+    let mut listeners = Listeners::new(alloc, given);
+    let kept = barriers(&mut listeners)?;
+    Ok(kept == (2, 2) && heard.load(Ordering::SeqCst) == 111_111_223_344)
+}
+
+#[test]
+fn each_listener_hears_each_event_in_order(rt: HostRuntime) {
+    assert_row(&rt, is_heard(rt.alloc()), "two listeners");
 }

@@ -1,11 +1,11 @@
 //! Numbers and checksums as bytes.
 
+use crate::told::assert_rows;
 use raft_codec::checksum::crc32;
 use raft_codec::number::{push_u32, push_u64, push_var, take_u32, take_u64, take_var, var_len};
 use raft_records::Fault;
-use raft_rows::{Row, first_wrong};
+use raft_rows::Row;
 use std::alloc::{AllocError, Global};
-use std::test::Fail;
 
 enum Form {
     Eight,
@@ -114,9 +114,8 @@ impl Row for Number {
 }
 
 #[test]
-fn numbers_have_their_bytes(rt: HostRuntime) -> Result<(), Fail> {
-    assert_eq!(rt; first_wrong(rt.alloc(), &mut (), &NUMBERS)?, None);
-    Ok(())
+fn numbers_have_their_bytes(rt: HostRuntime) {
+    assert_rows(&rt, rt.alloc(), &mut (), &NUMBERS);
 }
 
 impl Row for NoNumber {
@@ -128,9 +127,8 @@ impl Row for NoNumber {
 }
 
 #[test]
-fn other_bytes_are_no_number(rt: HostRuntime) -> Result<(), Fail> {
-    assert_eq!(rt; first_wrong(rt.alloc(), &mut (), &REFUSED)?, None);
-    Ok(())
+fn other_bytes_are_no_number(rt: HostRuntime) {
+    assert_rows(&rt, rt.alloc(), &mut (), &REFUSED);
 }
 
 /// Bytes, how many of `(7 * i + 3) % 256` stand behind them, and the checksum of all by zlib.
@@ -167,7 +165,6 @@ impl Row for Checksum {
 }
 
 #[test]
-fn checksums_agree_with_zlib(rt: HostRuntime) -> Result<(), Fail> {
-    assert_eq!(rt; first_wrong(rt.alloc(), &mut (), &CHECKSUMS)?, None);
-    Ok(())
+fn checksums_agree_with_zlib(rt: HostRuntime) {
+    assert_rows(&rt, rt.alloc(), &mut (), &CHECKSUMS);
 }

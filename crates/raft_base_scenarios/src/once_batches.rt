@@ -1,57 +1,11 @@
 //! Batches: where they first change a number, and with numbers behind them.
 
+use crate::items::{Part, batch_of};
+use crate::told::assert_rows;
 use raft_base::Fault;
 use raft_once::{add_numbers, number_item_at};
-use raft_records::{Command, EntryIndex, LogBatch};
-use raft_rows::{Row, first_wrong};
+use raft_rows::Row;
 use std::alloc::Global;
-use std::test::Fail;
-
-/// An item of a batch.
-enum Part {
-    /// One entry, by its index, of no bytes.
-    Entry(u64, u64),
-    Clean(u64),
-    Compact(u64, u64),
-    Put(u64, &'static [u8], &'static [u8]),
-    Delete(u64, &'static [u8]),
-}
-
-fn add(alloc: Global, batch: &mut LogBatch, part: &Part) -> Result<(), Fault> {
-    match part {
-        Part::Entry(group, index) => add_entry(alloc, batch, *group, *index),
-        Part::Clean(group) => batch.add_command(*group, Command::Clean),
-        Part::Compact(group, index) => batch.add_command(
-            *group,
-            Command::Compact { index: *index },
-        ),
-        Part::Put(group, key, value) => {
-            batch.put(*group, key.to_vec(alloc)?, value.to_vec(alloc)?)
-        }
-        Part::Delete(group, key) => batch.delete(*group, key.to_vec(alloc)?),
-    }
-}
-
-fn add_entry(alloc: Global, batch: &mut LogBatch, group: u64, index: u64) -> Result<(), Fault> {
-    let place = EntryIndex {
-        index,
-        entries: None,
-        entry_offset: 0,
-        entry_len: 0,
-        lz4: false,
-    };
-    let indexes = vec![in alloc; place]?;
-    let bytes = vec![in alloc; Vec::new(alloc)]?;
-    batch.add_raw_entries(group, indexes, bytes)
-}
-
-fn batch_of(alloc: Global, parts: &[Part]) -> Result<LogBatch, Fault> {
-    let mut batch = LogBatch::new(alloc);
-    for part in parts {
-        add(alloc, &mut batch, part)?;
-    }
-    Ok(batch)
-}
 
 /// A batch, and the place of the first item that changes a number.
 struct Place(&'static [Part], Option<usize>);
@@ -107,9 +61,8 @@ impl Row for Place {
 }
 
 #[test]
-fn the_first_item_that_changes_a_number_is_found(rt: HostRuntime) -> Result<(), Fail> {
-    assert_eq!(rt; first_wrong(rt.alloc(), &mut (), &PLACES)?, None);
-    Ok(())
+fn the_first_item_that_changes_a_number_is_found(rt: HostRuntime) {
+    assert_rows(&rt, rt.alloc(), &mut (), &PLACES);
 }
 
 /// A batch, numbers of groups, and the batch with them.
@@ -147,7 +100,6 @@ impl Row for Numbered {
 }
 
 #[test]
-fn numbers_stand_behind_the_items(rt: HostRuntime) -> Result<(), Fail> {
-    assert_eq!(rt; first_wrong(rt.alloc(), &mut (), &NUMBERED)?, None);
-    Ok(())
+fn numbers_stand_behind_the_items(rt: HostRuntime) {
+    assert_rows(&rt, rt.alloc(), &mut (), &NUMBERED);
 }

@@ -1,10 +1,10 @@
 //! The numbers in values, and pairs of a group and a number.
 
+use crate::told::assert_rows;
 use raft_base::Fault;
 use raft_once::{are_unfit, is_number_key, kept_number};
-use raft_rows::{Row, first_wrong};
+use raft_rows::Row;
 use std::alloc::Global;
-use std::test::Fail;
 
 /// A value, and the number in it.
 struct Kept(&'static [u8], u64);
@@ -29,10 +29,9 @@ impl Row for Kept {
 }
 
 #[test]
-fn a_number_is_a_value_of_eight_bytes(rt: HostRuntime) -> Result<(), Fail> {
-    assert_eq!(rt; kept_number(None), 0);
-    assert_eq!(rt; first_wrong(rt.alloc(), &mut (), &KEPT)?, None);
-    Ok(())
+fn a_number_is_a_value_of_eight_bytes(rt: HostRuntime) {
+    assert!(rt; kept_number(None) == 0);
+    assert_rows(&rt, rt.alloc(), &mut (), &KEPT);
 }
 
 /// Pairs, and whether they are unfit.
@@ -58,9 +57,8 @@ impl Row for Pairs {
 }
 
 #[test]
-fn each_group_stands_once_in_pairs(rt: HostRuntime) -> Result<(), Fail> {
-    assert_eq!(rt; first_wrong(rt.alloc(), &mut (), &PAIRS)?, None);
-    Ok(())
+fn each_group_stands_once_in_pairs(rt: HostRuntime) {
+    assert_rows(&rt, rt.alloc(), &mut (), &PAIRS);
 }
 
 /// A key, and whether a group keeps its number there.
@@ -84,7 +82,6 @@ impl Row for Key {
 }
 
 #[test]
-fn one_key_is_the_number_s(rt: HostRuntime) -> Result<(), Fail> {
-    assert_eq!(rt; first_wrong(rt.alloc(), &mut (), &KEYS)?, None);
-    Ok(())
+fn one_key_is_the_number_s(rt: HostRuntime) {
+    assert_rows(&rt, rt.alloc(), &mut (), &KEYS);
 }

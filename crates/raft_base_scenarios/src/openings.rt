@@ -2,11 +2,11 @@
 
 use crate::asks::{Ask, item_of, one_item};
 use crate::tables::{Entry, Held, has_entries, has_value};
+use crate::told::assert_rows;
 use raft_records::{Fault, FileId, LogItem, LogQueue};
-use raft_rows::{Row, first_wrong};
+use raft_rows::Row;
 use raft_tables::{GlobalStats, MemTableRecoverContext, MemTables};
 use std::alloc::Global;
-use std::test::Fail;
 
 /// What group 1 was asked in the Rewrite queue and in the Append queue.
 struct Queues(&'static [Ask], &'static [Ask]);
@@ -165,7 +165,6 @@ impl Row for Opening {
 }
 
 #[test]
-fn tables_of_both_queues_are_joined(rt: HostRuntime) -> Result<(), Fail> {
-    assert_eq!(rt; first_wrong(rt.alloc(), &mut (), &OPENINGS)?, None);
-    Ok(())
+fn tables_of_both_queues_are_joined(rt: HostRuntime) {
+    assert_rows(&rt, rt.alloc(), &mut (), &OPENINGS);
 }

@@ -1,10 +1,10 @@
 //! The hook: which file isn't ready for a purge.
 
+use crate::told::assert_rows;
 use raft_base::Fault;
 use raft_listeners::PurgeHook;
-use raft_rows::{Row, first_wrong};
+use raft_rows::Row;
 use std::alloc::Global;
-use std::test::Fail;
 
 /// A call of the hook with the number of a file.
 enum Step {
@@ -51,8 +51,7 @@ impl Row for Call {
 }
 
 #[test]
-fn the_hook_keeps_files_whose_records_wait(rt: HostRuntime) -> Result<(), Fail> {
+fn the_hook_keeps_files_whose_records_wait(rt: HostRuntime) {
     let mut hook = PurgeHook::new(rt.alloc());
-    assert_eq!(rt; first_wrong(rt.alloc(), &mut hook, &CALLS)?, None);
-    Ok(())
+    assert_rows(&rt, rt.alloc(), &mut hook, &CALLS);
 }

@@ -1,5 +1,6 @@
 //! Plans of purges in a row: which groups are asked for, and which are rewritten.
 
+use crate::told::assert_right;
 use raft_base::{FileBlockHandle, FileId, LogQueue};
 use raft_purge_rules::{Needs, Rounds, Watermarks, plan_purge};
 use raft_records::{EntryIndex, Fault, LogItem, LogItemContent};
@@ -7,7 +8,6 @@ use raft_rows::{Row, first_wrong};
 use raft_tables::{GlobalStats, MemTables};
 use std::alloc::{AllocError, Global};
 use std::mem;
-use std::test::Fail;
 
 /// A group that has entries in a file of the Append queue: so many, from index 1 on.
 struct Placed(u64, u64, u64);
@@ -102,10 +102,13 @@ impl Row for Round {
     }
 }
 
-#[test]
-fn a_group_that_was_asked_for_in_vain_is_rewritten(rt: HostRuntime) -> Result<(), Fail> {
-    let alloc = rt.alloc();
+// The place of the first round that goes otherwise.
+fn wrong_round(alloc: Global) -> Result<Option<usize>, Fault> {
     let mut state = (tables_of(alloc, &PLACED)?, Rounds::new(alloc));
-    assert_eq!(rt; first_wrong(rt.alloc(), &mut state, &ROUNDS)?, None);
-    Ok(())
+    first_wrong(alloc, &mut state, &ROUNDS)
+}
+
+#[test]
+fn a_group_that_was_asked_for_in_vain_is_rewritten(rt: HostRuntime) {
+    assert_right(&rt, wrong_round(rt.alloc()));
 }

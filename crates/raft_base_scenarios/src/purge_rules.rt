@@ -1,13 +1,13 @@
 //! Watermarks, and when a queue needs a rewriting.
 
+use crate::told::assert_rows;
 use raft_base::{Fault, ReadableSize};
 use raft_purge_rules::{
     QueueUse, RewrittenEntries, append_needs_rewrite, compact_watermark, rewrite_needs_rewrite,
     rewrite_watermark,
 };
-use raft_rows::{Row, first_wrong};
+use raft_rows::Row;
 use std::alloc::Global;
-use std::test::Fail;
 
 /// The first and the last file, the last one that is rewritten, and the first one to which no old group refers.
 struct Marks(u64, u64, u64, u64);
@@ -36,9 +36,8 @@ impl Row for Marks {
 }
 
 #[test]
-fn watermarks_are_before_the_last_file(rt: HostRuntime) -> Result<(), Fail> {
-    assert_eq!(rt; first_wrong(rt.alloc(), &mut (), &MARKS)?, None);
-    Ok(())
+fn watermarks_are_before_the_last_file(rt: HostRuntime) {
+    assert_rows(&rt, rt.alloc(), &mut (), &MARKS);
 }
 
 /// Files of 1 KB each over a threshold of 10 KB: whether the Append queue needs a rewriting.
@@ -64,9 +63,8 @@ impl Row for Full {
 }
 
 #[test]
-fn a_queue_above_its_threshold_needs_a_rewriting(rt: HostRuntime) -> Result<(), Fail> {
-    assert_eq!(rt; first_wrong(rt.alloc(), &mut (), &FULL)?, None);
-    Ok(())
+fn a_queue_above_its_threshold_needs_a_rewriting(rt: HostRuntime) {
+    assert_rows(&rt, rt.alloc(), &mut (), &FULL);
 }
 
 /// Of ten rewritten entries so many are garbage, over a ratio of 600 thousandths: whether the Rewrite queue needs a
@@ -98,7 +96,6 @@ impl Row for Garbage {
 }
 
 #[test]
-fn garbage_needs_a_rewriting(rt: HostRuntime) -> Result<(), Fail> {
-    assert_eq!(rt; first_wrong(rt.alloc(), &mut (), &GARBAGE)?, None);
-    Ok(())
+fn garbage_needs_a_rewriting(rt: HostRuntime) {
+    assert_rows(&rt, rt.alloc(), &mut (), &GARBAGE);
 }

@@ -1,13 +1,14 @@
 //! Records as bytes: what is read and replayed of them.
 
+use crate::changes::key_value_of;
 use crate::record_rows::{DecodedRecord, UNSIGNED, WantedItem, decoded};
 use crate::refused_rows::{RefusedRecord, refused};
+use crate::told::assert_row;
 use raft_records::{
-    Command, EntryIndex, Fault, FileBlockHandle, KeyValue, LogFileContext, LogItem, LogItemBatch,
+    Command, EntryIndex, Fault, FileBlockHandle, LogFileContext, LogItem, LogItemBatch,
     LogItemContent, RecordHeader, decode_entries_block, decode_header, decode_record,
 };
 use std::alloc::{AllocError, Global};
-use std::test::Fail;
 
 fn entries_of(
     alloc: Global,
@@ -49,13 +50,12 @@ fn item_of(
             (*group, LogItemContent::Command(command))
         }
         WantedItem::Put(group, key, value) => {
-            let key = key.to_vec(alloc)?;
-            let value = value.to_vec(alloc)?;
-            (*group, LogItemContent::Kv(KeyValue::Put { key, value }))
+            let pair = key_value_of(alloc, key, Some(*value))?;
+            (*group, LogItemContent::Kv(pair))
         }
         WantedItem::Delete(group, key) => {
-            let key = key.to_vec(alloc)?;
-            (*group, LogItemContent::Kv(KeyValue::Delete { key }))
+            let pair = key_value_of(alloc, key, None)?;
+            (*group, LogItemContent::Kv(pair))
         }
     };
     Ok(LogItem {
@@ -103,10 +103,10 @@ fn is_record(
 }
 
 // Whether the bytes are read and replayed to what the record holds.
-fn is_decoded(alloc: Global, record: &DecodedRecord) -> Result<bool, AllocError> {
+fn is_decoded(alloc: Global, record: &DecodedRecord) -> Result<bool, Fault> {
     let items = items_of(alloc, record)?;
-    for sound in [true, false] {
-        let decoded = read(alloc, record.bytes, record.at, &record.file, sound);
+    for sound in &[true, false] {
+        let decoded = read(alloc, record.bytes, record.at, &record.file, *sound);
         if !is_record(decoded, record, &items) {
             return Ok(false);
         }
@@ -115,13 +115,12 @@ fn is_decoded(alloc: Global, record: &DecodedRecord) -> Result<bool, AllocError>
 }
 
 #[test]
-fn records_are_decoded(rt: HostRuntime) -> Result<(), Fail> {
+fn records_are_decoded(rt: HostRuntime) {
     for table in &decoded() {
         for record in *table {
-            assert!(rt; is_decoded(rt.alloc(), record)?, "{}", record.name);
+            assert_row(&rt, is_decoded(rt.alloc(), record), record.name);
         }
     }
-    Ok(())
 }
 
 fn is_refused(decoded: Result<(LogItemBatch, usize), Fault>, code: Option<u8>) -> bool {

@@ -1,9 +1,9 @@
 //! Sizes as texts, the order of files, and their signatures.
 
+use crate::told::assert_rows;
 use raft_records::{Fault, FileId, LogFileContext, LogQueue, ReadableSize, Version};
-use raft_rows::{Row, first_wrong};
+use raft_rows::Row;
 use std::alloc::Global;
-use std::test::Fail;
 
 /// A text, and the size that it stands for; else it is refused as an invalid argument.
 struct Size(&'static str, Option<u64>);
@@ -39,9 +39,8 @@ impl Row for Size {
 }
 
 #[test]
-fn sizes_are_read(rt: HostRuntime) -> Result<(), Fail> {
-    assert_eq!(rt; first_wrong(rt.alloc(), &mut (), &SIZES)?, None);
-    Ok(())
+fn sizes_are_read(rt: HostRuntime) {
+    assert_rows(&rt, rt.alloc(), &mut (), &SIZES);
 }
 
 enum Unit {
@@ -75,9 +74,8 @@ impl Row for Made {
 }
 
 #[test]
-fn sizes_are_made(rt: HostRuntime) -> Result<(), Fail> {
-    assert_eq!(rt; first_wrong(rt.alloc(), &mut (), &MADE)?, None);
-    Ok(())
+fn sizes_are_made(rt: HostRuntime) {
+    assert_rows(&rt, rt.alloc(), &mut (), &MADE);
 }
 
 /// A file, which comes after those of the rows before.
@@ -102,10 +100,9 @@ impl Row for Later {
 }
 
 #[test]
-fn rewrite_files_come_first(rt: HostRuntime) -> Result<(), Fail> {
+fn rewrite_files_come_first(rt: HostRuntime) {
     let mut before = FileId::new(LogQueue::Rewrite, 0);
-    assert_eq!(rt; first_wrong(rt.alloc(), &mut before, &FILES)?, None);
-    Ok(())
+    assert_rows(&rt, rt.alloc(), &mut before, &FILES);
 }
 
 /// A version, a file's number, and what its records are signed with.
@@ -131,7 +128,6 @@ impl Row for Signature {
 }
 
 #[test]
-fn records_are_signed_in_version_2(rt: HostRuntime) -> Result<(), Fail> {
-    assert_eq!(rt; first_wrong(rt.alloc(), &mut (), &SIGNATURES)?, None);
-    Ok(())
+fn records_are_signed_in_version_2(rt: HostRuntime) {
+    assert_rows(&rt, rt.alloc(), &mut (), &SIGNATURES);
 }

@@ -2,11 +2,11 @@
 
 use crate::asks::{Ask, item_of, one_item};
 use crate::changes::{Change, push_items};
+use crate::told::assert_rows;
 use raft_records::{Fault, FileId, LogItem, LogQueue};
-use raft_rows::{Row, first_wrong};
+use raft_rows::Row;
 use raft_tables::{GlobalStats, MemTable, MemTables};
 use std::alloc::{AllocError, Global};
-use std::test::Fail;
 
 const FILE_1: FileId = FileId {
     queue: LogQueue::Append,
@@ -395,38 +395,33 @@ impl Row for Step {
 }
 
 #[test]
-fn items_apply_in_order(rt: HostRuntime) -> Result<(), Fail> {
+fn items_apply_in_order(rt: HostRuntime) {
     let mut tables = MemTables::new(rt.alloc());
-    assert_eq!(rt; first_wrong(rt.alloc(), &mut tables, &APPLIED)?, None);
-    Ok(())
+    assert_rows(&rt, rt.alloc(), &mut tables, &APPLIED);
 }
 
 #[test]
-fn tables_are_listed_in_order(rt: HostRuntime) -> Result<(), Fail> {
+fn tables_are_listed_in_order(rt: HostRuntime) {
     let mut tables = MemTables::new(rt.alloc());
-    assert_eq!(rt; first_wrong(rt.alloc(), &mut tables, &LISTED)?, None);
-    Ok(())
+    assert_rows(&rt, rt.alloc(), &mut tables, &LISTED);
 }
 
 #[test]
-fn entries_are_put_and_dropped(rt: HostRuntime) -> Result<(), Fail> {
+fn entries_are_put_and_dropped(rt: HostRuntime) {
     let mut tables = MemTables::new(rt.alloc());
-    assert_eq!(rt; first_wrong(rt.alloc(), &mut tables, &ENTRIES)?, None);
-    Ok(())
+    assert_rows(&rt, rt.alloc(), &mut tables, &ENTRIES);
 }
 
 #[test]
-fn items_are_checked(rt: HostRuntime) -> Result<(), Fail> {
+fn items_are_checked(rt: HostRuntime) {
     let mut tables = MemTables::new(rt.alloc());
-    assert_eq!(rt; first_wrong(rt.alloc(), &mut tables, &CHECKS)?, None);
-    Ok(())
+    assert_rows(&rt, rt.alloc(), &mut tables, &CHECKS);
 }
 
 #[test]
-fn the_first_file_is_found(rt: HostRuntime) -> Result<(), Fail> {
+fn the_first_file_is_found(rt: HostRuntime) {
     let mut tables = MemTables::new(rt.alloc());
-    assert_eq!(rt; first_wrong(rt.alloc(), &mut tables, &FIRST_FILES)?, None);
-    Ok(())
+    assert_rows(&rt, rt.alloc(), &mut tables, &FIRST_FILES);
 }
 
 /// What the key of a table holds, or nothing.
@@ -464,9 +459,8 @@ impl Row for Value {
 }
 
 #[test]
-fn a_table_keeps_each_key_once(rt: HostRuntime) -> Result<(), Fail> {
+fn a_table_keeps_each_key_once(rt: HostRuntime) {
     let mut table = MemTable::new(rt.alloc());
     assert!(rt; is_held(&table, None));
-    assert_eq!(rt; first_wrong(rt.alloc(), &mut table, &HELD)?, None);
-    Ok(())
+    assert_rows(&rt, rt.alloc(), &mut table, &HELD);
 }

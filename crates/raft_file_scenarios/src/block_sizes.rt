@@ -1,11 +1,12 @@
 //! A file that is read in blocks of different sizes.
 
+use crate::failing::Failing;
+use crate::told::assert_row;
 use raft_env::{FileSystem, FsFault, IoKind, Permission};
 use raft_files::{LogFileReader, LogItemBatchFileReader};
 use raft_memory::{FsCall, MemoryFileSystem};
 use raft_records::{Fault, FileId, LogBatch, LogQueue};
 use std::alloc::Global;
-use std::test::Fail;
 
 const PATH: &str = "log";
 
@@ -117,18 +118,13 @@ fn each_reads<F: FileSystem>(
 ) -> Result<bool, Fault> {
     for size in &SIZES {
         let mut records = open(fs, alloc, *size)?;
-        if read_all(fs, &mut records, ends) != found {
+        let read = read_all(fs, &mut records, ends);
+        drop(records);
+        if read != found {
             return Ok(false);
         }
     }
     Ok(true)
-}
-
-// The ends of all records, where they are read with blocks of each size.
-fn all_read<F: FileSystem>(fs: &mut F, alloc: Global) -> Result<Option<Vec<usize>>, Fault> {
-    let ends = written(fs, alloc)?;
-    let are_read = each_reads(fs, alloc, &ends, (RECORDS, 0))?;
-    Ok(if are_read { Some(ends) } else { None })
 }
 
 fn cut<F: FileSystem>(fs: &mut F, size: usize) -> Result<(), FsFault> {
@@ -146,21 +142,26 @@ fn others_read<F: FileSystem>(fs: &mut F, alloc: Global, ends: &[usize]) -> Resu
     }
 }
 
-// Whether a read that is refused behind the opening shows before the last record.
-fn is_read_in_blocks(fs: &mut MemoryFileSystem, alloc: Global) -> Result<bool, Fault> {
-    let Some(ends) = all_read(fs, alloc)? else {
-        return Ok(false);
-    };
+// Whether all records are read with blocks of each size, and a read that is refused behind the
+// opening shows before the last one.
+fn is_read_in_blocks<F: Failing>(fs: &mut F, alloc: Global) -> Result<bool, Fault> {
+    let ends = written(fs, alloc)?;
+    let all = each_reads(fs, alloc, &ends, (RECORDS, 0))?;
     let mut records = open(fs, alloc, 512)?;
-    fs.refuse(FsCall::Read, 1, IoKind::Other)?;
+    let failing = fs.fail(FsCall::Read, 1, IoKind::Other);
     let (read, code) = read_all(fs, &mut records, &ends);
+    drop(records);
+    failing?;
     let others = others_read(fs, alloc, &ends)?;
-    Ok(read < RECORDS && code == 3 && others)
+    Ok(all && read < RECORDS && code == 3 && others)
+}
+
+fn is_read_in_memory(alloc: Global) -> Result<bool, Fault> {
+    let mut fs = MemoryFileSystem::new(alloc);
+    is_read_in_blocks(&mut fs, alloc)
 }
 
 #[test]
-fn block_size_changes_no_batch(rt: HostRuntime) -> Result<(), Fail> {
-    let mut fs = MemoryFileSystem::new(rt.alloc());
-    assert!(rt; is_read_in_blocks(&mut fs, rt.alloc())?);
-    Ok(())
+fn block_size_changes_no_batch(rt: HostRuntime) {
+    assert_row(&rt, is_read_in_memory(rt.alloc()), "a file of many records");
 }

@@ -1,5 +1,6 @@
 //! Writers and readers that are built by a file's path.
 
+use crate::told::assert_row;
 use raft_dump::{build_file_reader, build_file_writer};
 use raft_env::FileSystem;
 use raft_files::LogFileFormat;
@@ -7,7 +8,6 @@ use raft_memory::MemoryFileSystem;
 use raft_records::Fault;
 use raft_rows::{HEADER, PUT, fill};
 use std::alloc::Global;
-use std::test::Fail;
 
 /// A path, whether the file is asked for, and where its writer stands, or a fault's code.
 static ROWS: [(&str, bool, Result<usize, u8>); 5] = [
@@ -60,14 +60,20 @@ fn holds<F: FileSystem>(
     })
 }
 
+fn holds_in_memory(
+    alloc: Global,
+    path: &str,
+    create: bool,
+    offset: Result<usize, u8>,
+) -> Result<bool, Fault> {
+    let mut fs = MemoryFileSystem::new(alloc);
+    holds(&mut fs, alloc, path, create, offset)
+}
+
 #[test]
-fn writers_stand_behind_a_header(rt: HostRuntime) -> Result<(), Fail> {
+fn writers_stand_behind_a_header(rt: HostRuntime) {
     for (path, create, offset) in &ROWS {
-        let mut fs = MemoryFileSystem::new(rt.alloc());
-        assert!(rt;
-            holds(&mut fs, rt.alloc(), path, *create, *offset)?,
-            "{path}"
-        );
+        let held = holds_in_memory(rt.alloc(), path, *create, *offset);
+        assert_row(&rt, held, path);
     }
-    Ok(())
 }

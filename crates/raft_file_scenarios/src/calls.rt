@@ -1,9 +1,10 @@
 //! Calls on the files of a folder: what each is answered, and what then stands on the disk.
 
-use crate::reads::bytes_at;
-use raft_disk::DiskFileSystem;
+use crate::in_folder::{InFolder, try_in_folder};
+use crate::reads::{bytes_at, place_in};
+use raft_disk::{DiskFileSystem, DiskWriter, Folder};
 use raft_env::{FileSystem, FsFault, IoKind, Permission};
-use raft_rows::temp_folder;
+use raft_memory::MemoryFileSystem;
 use std::test::Fail;
 use std::{fs, io};
 
@@ -32,7 +33,9 @@ const INNER: &str = "d/0000000000000002.raftlog";
 /// In one that isn't.
 const AWAY: &str = "f/0000000000000002.raftlog";
 
-enum Step {
+/// A call on the files of a folder, or what another program does.
+#[derive(Clone, Copy)]
+pub(crate) enum Step {
     MakeDir(&'static str),
     Create(&'static str),
     Delete(&'static str),
@@ -235,7 +238,10 @@ const CASES: [Case; 10] = [
 fn change_names<F: FileSystem>(fs: &mut F, step: &Step) -> Result<(), FsFault> {
     match step {
         Step::MakeDir(path) => fs.make_dir(path),
-        Step::Create(path) => fs.create(path).map(|_| ()),
+        Step::Create(path) => {
+            fs.create(path)?;
+            Ok(())
+        }
         Step::Delete(path) => fs.delete(path),
         Step::Rename(from, to) => fs.rename(from, to),
         _ => Ok(()),
@@ -261,27 +267,41 @@ fn writer_of<F: FileSystem>(fs: &mut F, path: &str) -> Result<F::Writer, FsFault
     fs.new_writer(&handle)
 }
 
-fn set_writer<F: FileSystem>(
-    fs: &mut F,
-    writer: &mut Option<F::Writer>,
-    path: &str,
-) -> Result<(), FsFault> {
-    *writer = Some(writer_of(fs, path)?);
-    Ok(())
-}
-
 fn take<F: FileSystem>(
     fs: &mut F,
     writer: &mut Option<F::Writer>,
     step: &Step,
 ) -> Result<(), FsFault> {
     if let Step::Writer(path) = step {
-        return set_writer(fs, writer, path);
+        *writer = Some(writer_of(fs, path)?);
+        return Ok(());
     }
     match writer {
         Some(writer) => change_bytes(fs, writer, step),
         None => change_names(fs, step),
     }
+}
+
+type DiskFileWriter = DiskWriter<Folder, MemoryFileSystem>;
+
+// Each function that calls files on the disk is dear to prove: no other does.
+fn take_on_disk(
+    files: &mut DiskFileSystem,
+    writer: &mut Option<DiskFileWriter>,
+    step: &Step,
+) -> Result<(), FsFault> {
+    take(files, writer, step)
+}
+
+/// Takes a step on the disk that no writer of an earlier one takes.
+pub(crate) fn take_alone(files: &mut DiskFileSystem, step: &Step) -> Result<(), FsFault> {
+    let mut writer = None;
+    take_on_disk(files, &mut writer, step)
+}
+
+/// Whether a file is known at the path.
+pub(crate) fn is_known(files: &DiskFileSystem, path: &str) -> bool {
+    files.is_file(path)
 }
 
 // Whether the file at the path has these bytes on the disk, or stands there no more.
@@ -300,23 +320,22 @@ fn stands(
 
 fn lose(rt: &HostRuntime, folder: &str, step: &Step) -> io::Result<()> {
     if let Step::Lose(path) = step {
-        let place = format!(in rt.alloc(); "{folder}/{path}")?;
-        fs::remove_file(rt, place.as_str())?;
+        fs::remove_file(rt, place_in(rt, folder, path)?.as_str())?;
     }
     Ok(())
 }
 
 // The first row whose answer or whose file on the disk is another.
-fn first_wrong<F: FileSystem + Drop>(
+fn first_wrong(
     rt: &HostRuntime,
-    mut fs: F,
+    files: &mut DiskFileSystem,
     folder: &str,
     rows: &[Row],
 ) -> Result<Option<usize>, Fail> {
     let mut writer = None;
     for (place, (step, fault, path, bytes)) in rows.iter().enumerate() {
         lose(rt, folder, step)?;
-        let answer = match take(&mut fs, &mut writer, step) {
+        let answer = match take_on_disk(files, &mut writer, step) {
             Ok(()) => None,
             Err(FsFault::Io(kind)) => Some(kind),
             Err(FsFault::Memory) => return Err(Fail::new("memory")),
@@ -329,32 +348,26 @@ fn first_wrong<F: FileSystem + Drop>(
 }
 
 fn wrong_in(rt: HostRuntime, folder: &str, rows: &[Row]) -> Result<Option<usize>, Fail> {
-    let files = DiskFileSystem::open(rt, folder)?;
-    first_wrong(&rt, files, folder, rows)
+    let mut files = DiskFileSystem::open(rt, folder)?;
+    first_wrong(&rt, &mut files, folder, rows)
 }
 
-// The first opening, and the row of it, that goes wrong.
-fn wrong_opening(
-    rt: HostRuntime,
-    folder: &str,
-    case: &Case,
-) -> Result<Option<(usize, usize)>, Fail> {
-    for (opening, rows) in case.openings.iter().enumerate() {
-        if let Some(row) = wrong_in(rt, folder, rows)? {
-            return Ok(Some((opening, row)));
+impl InFolder for Case {
+    fn holds(&self, rt: HostRuntime, folder: &str) -> Result<bool, Fail> {
+        for (opening, rows) in self.openings.iter().enumerate() {
+            if let Some(row) = wrong_in(rt, folder, rows)? {
+                let name = self.name;
+                return Err(Fail::new(format_args!("{name}: opening {opening}, row {row}")));
+            }
         }
+        Ok(true)
     }
-    Ok(None)
 }
 
 #[test]
 fn calls_are_carried_out_on_the_disk(rt: HostRuntime) -> Result<(), Fail> {
-    for case in &CASES {
-        let folder = temp_folder(&rt, "calls")?;
-        let wrong = wrong_opening(rt, folder.as_str(), case);
-        let removed = fs::remove_dir_all(&rt, folder.as_str());
-        assert_eq!(rt; wrong?, None, "{}", case.name);
-        removed?;
+    for (place, case) in CASES.iter().enumerate() {
+        try_in_folder(rt, "calls", place, case)?;
     }
     Ok(())
 }

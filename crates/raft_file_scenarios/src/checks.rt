@@ -1,13 +1,13 @@
 //! What a check tells of a file, and what an opening would do with a queue's files.
 
+use crate::told::{assert_case, assert_rows};
 use raft_config::RecoveryMode;
-use raft_dump::{FileCheck, Planned, check_file, log_files, passed_over, plan_opening};
+use raft_dump::{FileCheck, LogFile, Planned, check_file, log_files, passed_over, plan_opening};
 use raft_env::FileSystem;
 use raft_memory::MemoryFileSystem;
 use raft_records::Fault;
-use raft_rows::{FileParts, HEADER, NOTHING, PUT, PUTS, ZEROS, fill};
+use raft_rows::{FileParts, HEADER, NOTHING, PUT, PUTS, Row, ZEROS, fill};
 use std::alloc::Global;
-use std::test::Fail;
 
 /// How many records are read, where the reading ends, how long the file is, whether the rest is zeros, and the code of
 /// what stops the reading.
@@ -64,20 +64,28 @@ fn is_found(check: &FileCheck, found: &Found) -> bool {
         && check.format.is_some() == (check.end > 0)
 }
 
+/// The log files in a folder.
+pub(crate) fn files_in<F: FileSystem>(
+    alloc: Global,
+    fs: &mut F,
+    folder: &str,
+) -> Result<Vec<LogFile>, Fault> {
+    match fs.list(folder) {
+        Ok(names) => log_files(alloc, folder, &names),
+        Err(fault) => Err(fault.with_path(alloc, folder)),
+    }
+}
+
 // Checks of all log files in the folder a.
 fn checks_of<F: FileSystem>(alloc: Global, fs: &mut F) -> Result<Vec<FileCheck>, Fault> {
-    let names = match fs.list("a") {
-        Ok(names) => names,
-        Err(fault) => return Err(fault.with_path(alloc, "a")),
-    };
     let mut checks = Vec::new(alloc);
-    for file in log_files(alloc, "a", &names)? {
-        checks.push(check_file(alloc, &file, fs)?)?;
+    for file in &files_in(alloc, fs, "a")? {
+        checks.push(check_file(alloc, file, fs)?)?;
     }
     Ok(checks)
 }
 
-fn holds<F: FileSystem>(fs: &mut F, alloc: Global, case: &Case) -> Result<bool, Fault> {
+fn holds_in<F: FileSystem>(fs: &mut F, alloc: Global, case: &Case) -> Result<bool, Fault> {
     fill(fs, alloc, case.parts)?;
     match checks_of(alloc, fs)?.as_slice() {
         [check] => Ok(is_found(check, &case.found)),
@@ -85,13 +93,18 @@ fn holds<F: FileSystem>(fs: &mut F, alloc: Global, case: &Case) -> Result<bool, 
     }
 }
 
-#[test]
-fn a_check_tells_what_can_be_read(rt: HostRuntime) -> Result<(), Fail> {
-    for (place, case) in CASES.iter().enumerate() {
-        let mut fs = MemoryFileSystem::new(rt.alloc());
-        assert!(rt; holds(&mut fs, rt.alloc(), case)?, "case {place}");
+impl Row for Case {
+    type State = ();
+
+    fn holds(&self, alloc: Global, _: &mut ()) -> Result<bool, Fault> {
+        let mut fs = MemoryFileSystem::new(alloc);
+        holds_in(&mut fs, alloc, self)
     }
-    Ok(())
+}
+
+#[test]
+fn a_check_tells_what_can_be_read(rt: HostRuntime) {
+    assert_rows(&rt, rt.alloc(), &mut (), &CASES);
 }
 
 /// Files of a queue with a missing number; of those behind it two have a broken end.
@@ -122,7 +135,17 @@ fn is_planned<F: FileSystem>(
 ) -> Result<bool, Fault> {
     fill(fs, alloc, &QUEUE)?;
     let checks = checks_of(alloc, fs)?;
-    let passed = passed_over(&checks);
+    is_plan(alloc, &checks, mode, planned)
+}
+
+// Whether one file is passed over, and this is planned for the others.
+fn is_plan(
+    alloc: Global,
+    checks: &[FileCheck],
+    mode: RecoveryMode,
+    planned: &[Planned],
+) -> Result<bool, Fault> {
+    let passed = passed_over(checks);
     let Some(kept) = checks.get(passed..) else {
         return Ok(false);
     };
@@ -130,14 +153,18 @@ fn is_planned<F: FileSystem>(
     Ok(passed == 1 && plan.as_slice() == planned)
 }
 
+fn is_planned_in_memory(
+    alloc: Global,
+    mode: RecoveryMode,
+    planned: &[Planned],
+) -> Result<bool, Fault> {
+    let mut fs = MemoryFileSystem::new(alloc);
+    is_planned(&mut fs, alloc, mode, planned)
+}
+
 #[test]
-fn an_opening_cuts_what_its_mode_tolerates(rt: HostRuntime) -> Result<(), Fail> {
+fn an_opening_cuts_what_its_mode_tolerates(rt: HostRuntime) {
     for (place, (mode, planned)) in PLANS.iter().enumerate() {
-        let mut fs = MemoryFileSystem::new(rt.alloc());
-        assert!(rt;
-            is_planned(&mut fs, rt.alloc(), *mode, planned)?,
-            "mode {place}"
-        );
+        assert_case(&rt, is_planned_in_memory(rt.alloc(), *mode, planned), place);
     }
-    Ok(())
 }

@@ -1,12 +1,13 @@
 //! What dumps of folders and files give.
 
-use raft_dump::{LogFile, LogItemReader, RecordPlace, dump_with_file_system, log_files};
+use crate::checks::files_in;
+use crate::told::{assert_row, assert_rows};
+use raft_dump::{LogFile, LogItemReader, RecordPlace, dump_with_file_system};
 use raft_env::FileSystem;
 use raft_memory::MemoryFileSystem;
 use raft_records::{Fault, LogItem, LogQueue};
-use raft_rows::{FileParts, HEADER, NOTHING, PUT, PUTS, ZEROS, fill};
+use raft_rows::{FileParts, HEADER, NOTHING, PUT, PUTS, Row, ZEROS, fill};
 use std::alloc::Global;
-use std::test::Fail;
 
 const APPEND: LogQueue = LogQueue::Append;
 
@@ -115,13 +116,8 @@ fn files_of<F: FileSystem>(
 ) -> Result<Vec<LogFile>, Fault> {
     let mut files = Vec::new(alloc);
     for folder in folders {
-        let names = match fs.list(folder) {
-            Ok(names) => names,
-            Err(fault) => return Err(fault.with_path(alloc, folder)),
-        };
-        for file in log_files(alloc, folder, &names)? {
-            files.push(file)?;
-        }
+        let mut more = files_in(alloc, fs, folder)?;
+        files.append(&mut more)?;
     }
     Ok(files)
 }
@@ -165,19 +161,26 @@ fn gives<F: FileSystem>(
     items.next(fs).is_none() && items.next(fs).is_none()
 }
 
-fn holds<F: FileSystem>(fs: &mut F, alloc: Global, case: &Case) -> Result<bool, Fault> {
+fn holds_in<F: FileSystem>(fs: &mut F, alloc: Global, case: &Case) -> Result<bool, Fault> {
     fill(fs, alloc, case.files)?;
     let mut items = reader_of(alloc, fs, case.paths)?;
-    Ok(gives(fs, &mut items, case.answers))
+    let held = gives(fs, &mut items, case.answers);
+    drop(items);
+    Ok(held)
+}
+
+impl Row for Case {
+    type State = ();
+
+    fn holds(&self, alloc: Global, _: &mut ()) -> Result<bool, Fault> {
+        let mut fs = MemoryFileSystem::new(alloc);
+        holds_in(&mut fs, alloc, self)
+    }
 }
 
 #[test]
-fn files_give_their_items_and_then_an_error(rt: HostRuntime) -> Result<(), Fail> {
-    for (place, case) in CASES.iter().enumerate() {
-        let mut fs = MemoryFileSystem::new(rt.alloc());
-        assert!(rt; holds(&mut fs, rt.alloc(), case)?, "case {place}");
-    }
-    Ok(())
+fn files_give_their_items_and_then_an_error(rt: HostRuntime) {
+    assert_rows(&rt, rt.alloc(), &mut (), &CASES);
 }
 
 /// Paths of which nothing is dumped, beside two folders and a file `a/LOCK`.
@@ -191,16 +194,22 @@ static REFUSED: [&str; 4] = [
 fn is_refused<F: FileSystem>(fs: &mut F, alloc: Global, path: &str) -> Result<bool, Fault> {
     fill(fs, alloc, &[("a/LOCK", &[])])?;
     match dump_with_file_system(alloc, path, fs) {
-        Ok(_) => Ok(false),
+        Ok(items) => {
+            drop(items);
+            Ok(false)
+        }
         Err(fault) => Ok(fault.code() == 1),
     }
 }
 
+fn is_refused_in_memory(alloc: Global, path: &str) -> Result<bool, Fault> {
+    let mut fs = MemoryFileSystem::new(alloc);
+    is_refused(&mut fs, alloc, path)
+}
+
 #[test]
-fn other_paths_are_refused(rt: HostRuntime) -> Result<(), Fail> {
+fn other_paths_are_refused(rt: HostRuntime) {
     for path in &REFUSED {
-        let mut fs = MemoryFileSystem::new(rt.alloc());
-        assert!(rt; is_refused(&mut fs, rt.alloc(), path)?, "{path}");
+        assert_row(&rt, is_refused_in_memory(rt.alloc(), path), path);
     }
-    Ok(())
 }

@@ -1,9 +1,10 @@
 //! What stands in a log's folder and is none of its files: an opening passes it over, and no call reaches it.
 
-use crate::reads::bytes_at;
+use crate::calls::{Step, is_known, take_alone};
+use crate::in_folder::{InFolder, try_in_folder};
+use crate::reads::{bytes_at, place_in, stands_at, text_of, write_at};
 use raft_disk::{DiskFileSystem, OpenFault, is_log_name};
-use raft_env::{FileSystem, FsFault, IoKind};
-use raft_rows::temp_folder;
+use raft_env::{FsFault, IoKind};
 use std::os::unix::fs::symlink;
 use std::test::Fail;
 use std::{fs, io};
@@ -40,30 +41,29 @@ const NAMES: [(&str, bool); 12] = [
 ];
 
 #[test]
-fn names_of_a_log_are_told(rt: HostRuntime) -> Result<(), Fail> {
-    for (name, wanted) in NAMES {
-        assert!(rt; is_log_name(name) == wanted, "{name}");
+fn names_of_a_log_are_told(rt: HostRuntime) {
+    for (name, wanted) in &NAMES {
+        assert!(rt; is_log_name(name) == *wanted, "{name}");
     }
-    Ok(())
 }
 
-fn place_in(rt: &HostRuntime, folder: &str, path: &str) -> io::Result<String> {
-    Ok(format!(in rt.alloc(); "{folder}/{path}")?)
+fn name_twice(rt: &HostRuntime, folder: &str) -> io::Result<()> {
+    let twice = place_in(rt, folder, "twice")?;
+    let again = place_in(rt, folder, "again")?;
+    fs::hard_link(rt, twice.as_str(), again.as_str())
 }
 
 // A log in two folders, a third folder, and foreign things: files, links, and two names of one file.
 fn make(rt: &HostRuntime, folder: &str) -> io::Result<()> {
-    for path in ["s", "s/t", "u"] {
+    for path in &["s", "s/t", "u"] {
         fs::create_dir(rt, place_in(rt, folder, path)?.as_str())?;
     }
-    for path in [LOG, SPILLED, OTHER, "notes", "twice"] {
-        fs::write(rt, place_in(rt, folder, path)?.as_str(), KEPT)?;
+    for path in &[LOG, SPILLED, OTHER, "notes", "twice"] {
+        write_at(rt, folder, path, KEPT)?;
     }
-    let twice = place_in(rt, folder, "twice")?;
-    let again = place_in(rt, folder, "again")?;
-    fs::hard_link(rt, twice.as_str(), again.as_str())?;
-    for (to, link) in [("notes", "link"), ("nothing", "astray"), ("u", "links")] {
-        symlink(rt, to, place_in(rt, folder, link)?.as_str())?;
+    name_twice(rt, folder)?;
+    for (to, link) in &[("notes", "link"), ("nothing", "astray"), ("u", "links")] {
+        symlink(rt, *to, place_in(rt, folder, link)?.as_str())?;
     }
     Ok(())
 }
@@ -79,9 +79,9 @@ const KNOWN: [(&str, bool, bool); 6] = [
 ];
 
 fn knows(files: &DiskFileSystem, all: bool) -> bool {
-    for (path, in_all, in_two) in KNOWN {
-        let wanted = if all { in_all } else { in_two };
-        if files.is_file(path) != wanted {
+    for (path, in_all, in_two) in &KNOWN {
+        let wanted = if all { *in_all } else { *in_two };
+        if is_known(files, path) != wanted {
             return false;
         }
     }
@@ -122,12 +122,13 @@ fn is_refused(done: Result<(), FsFault>, wanted: Option<IoKind>) -> bool {
 }
 
 fn reaches(files: &mut DiskFileSystem, reach: &Reach) -> bool {
-    match reach {
-        Reach::Create(path, wanted) => is_refused(files.create(path).map(|_| ()), *wanted),
-        Reach::MakeDir(path, wanted) => is_refused(files.make_dir(path), *wanted),
-        Reach::Delete(path, wanted) => is_refused(files.delete(path), *wanted),
-        Reach::Rename(path, wanted) => is_refused(files.rename(LOG, path), *wanted),
-    }
+    let (step, wanted) = match reach {
+        Reach::Create(path, wanted) => (Step::Create(*path), *wanted),
+        Reach::MakeDir(path, wanted) => (Step::MakeDir(*path), *wanted),
+        Reach::Delete(path, wanted) => (Step::Delete(*path), *wanted),
+        Reach::Rename(path, wanted) => (Step::Rename(LOG, *path), *wanted),
+    };
+    is_refused(take_alone(files, &step), wanted)
 }
 
 fn is_out_of_reach(files: &mut DiskFileSystem) -> bool {
@@ -146,13 +147,13 @@ fn opened(rt: HostRuntime, folder: &str) -> Result<[bool; 3], OpenFault> {
 }
 
 fn is_kept(rt: &HostRuntime, folder: &str) -> io::Result<bool> {
-    for path in [LOG, SPILLED, OTHER, "notes", "twice", "again"] {
+    for path in &[LOG, SPILLED, OTHER, "notes", "twice", "again"] {
         match bytes_at(rt, folder, path)? {
             Some(bytes) if bytes.as_slice() == KEPT => {}
             _ => return Ok(false),
         }
     }
-    Ok(!fs::exists(rt, place_in(rt, folder, "nothing")?.as_str())?)
+    Ok(!stands_at(rt, folder, "nothing")?)
 }
 
 fn passes_over(rt: HostRuntime, folder: &str) -> Result<([bool; 3], bool), Fail> {
@@ -161,13 +162,18 @@ fn passes_over(rt: HostRuntime, folder: &str) -> Result<([bool; 3], bool), Fail>
     Ok((opened, is_kept(&rt, folder)?))
 }
 
+#[derive(Drop)]
+struct Foreign;
+
+impl InFolder for Foreign {
+    fn holds(&self, rt: HostRuntime, folder: &str) -> Result<bool, Fail> {
+        Ok(passes_over(rt, folder)? == ([true, true, true], true))
+    }
+}
+
 #[test]
 fn foreign_things_are_passed_over(rt: HostRuntime) -> Result<(), Fail> {
-    let folder = temp_folder(&rt, "foreign")?;
-    let found = passes_over(rt, folder.as_str());
-    let removed = fs::remove_dir_all(&rt, folder.as_str());
-    assert_eq!(rt; found?, ([true, true, true], true));
-    Ok(removed?)
+    try_in_folder(rt, "foreign", 0, &Foreign)
 }
 
 /// Paths of a second folder, and the text for which the opening is refused, none where it isn't.
@@ -181,29 +187,23 @@ const SECONDS: [(&str, &str); 7] = [
     ("later/on", ""),
 ];
 
-fn refusal_of(rt: HostRuntime, folder: &str, second: &str) -> Result<String, Fail> {
-    match DiskFileSystem::open_with(rt, folder, Some(second)) {
-        Ok(_) => Ok(String::new(rt.alloc())),
-        Err(fault) => Ok(format!(in rt.alloc(); "{fault}")?),
-    }
-}
+#[derive(Drop)]
+struct Seconds;
 
-fn wrong_second(rt: HostRuntime, folder: &str) -> Result<Option<&'static str>, Fail> {
-    make(&rt, folder)?;
-    for (second, text) in SECONDS {
-        let said = refusal_of(rt, folder, second)?;
-        if !said.ends_with(text) || said.is_empty() != text.is_empty() {
-            return Ok(Some(second));
+impl InFolder for Seconds {
+    fn holds(&self, rt: HostRuntime, folder: &str) -> Result<bool, Fail> {
+        make(&rt, folder)?;
+        for (second, text) in &SECONDS {
+            let said = text_of(&rt, DiskFileSystem::open_with(rt, folder, Some(*second)))?;
+            if !said.ends_with(*text) || said.is_empty() != text.is_empty() {
+                return Err(Fail::new(*second));
+            }
         }
+        Ok(true)
     }
-    Ok(None)
 }
 
 #[test]
 fn second_folders_are_below(rt: HostRuntime) -> Result<(), Fail> {
-    let folder = temp_folder(&rt, "second")?;
-    let wrong = wrong_second(rt, folder.as_str());
-    let removed = fs::remove_dir_all(&rt, folder.as_str());
-    assert_eq!(rt; wrong?, None);
-    Ok(removed?)
+    try_in_folder(rt, "second", 0, &Seconds)
 }

@@ -13,7 +13,11 @@ mod checks;
 #[cfg(test)]
 mod dumps;
 #[cfg(test)]
+mod failing;
+#[cfg(test)]
 mod foreign;
+#[cfg(test)]
+mod in_folder;
 #[cfg(test)]
 mod log_files;
 #[cfg(test)]
@@ -46,5 +50,7 @@ mod settings_text;
 mod spellings;
 #[cfg(test)]
 mod stale;
+#[cfg(test)]
+mod told;
 #[cfg(test)]
 mod views;

@@ -6,7 +6,6 @@ use raft_files::{LogFileFormat, LogFileReader, LogFileWriter, LogItemBatchFileRe
 use raft_memory::MemoryFileSystem;
 use raft_records::{Fault, FileBlockHandle, FileId, LogQueue, Version};
 use std::alloc::Global;
-use std::test::Fail;
 
 const V2: LogFileFormat = LogFileFormat {
     version: Version::V2,
@@ -76,12 +75,6 @@ fn is_block<F: FileSystem>(
     Ok(block.as_slice() == b"secondthird".as_slice())
 }
 
-fn is_end<F: FileSystem>(fs: &mut F, reader: &mut LogFileReader<F>) -> Result<bool, FsFault> {
-    let mut bytes = [0; 3];
-    let count = reader.read_to(fs, 83, &mut bytes)?;
-    Ok(count == 2 && bytes == *b"rd\0")
-}
-
 fn are_found<F: FileSystem>(
     fs: &mut F,
     alloc: Global,
@@ -89,7 +82,9 @@ fn are_found<F: FileSystem>(
 ) -> Result<bool, FsFault> {
     let found = reader.file_size() == 85 && reader.parse_format(fs)? == Some(V2);
     let block = is_block(fs, alloc, reader)?;
-    Ok(found && block && is_end(fs, reader)?)
+    let mut bytes = [0; 3];
+    let count = reader.read_to(fs, 83, &mut bytes)?;
+    Ok(found && block && count == 2 && bytes == *b"rd\0")
 }
 
 fn is_read<F: FileSystem>(fs: &mut F, alloc: Global, handle: &F::Handle) -> Result<bool, FsFault> {
@@ -164,25 +159,21 @@ fn is_replayed<F: FileSystem>(fs: &mut F, alloc: Global) -> Result<bool, FsFault
     }
 }
 
-fn is_written<F: FileSystem>(
-    fs: &mut F,
-    alloc: Global,
-    handle: &F::Handle,
-) -> Result<bool, FsFault> {
-    let written = first_wrong(fs, alloc, handle)?.is_none();
-    Ok(written && is_read(fs, alloc, handle)?)
-}
-
 fn is_written_and_read<F: FileSystem>(fs: &mut F, alloc: Global) -> Result<bool, FsFault> {
     let handle = fs.create("log")?;
-    let written = is_written(fs, alloc, &handle)?;
+    let written = first_wrong(fs, alloc, &handle)?.is_none();
+    let read = is_read(fs, alloc, &handle)?;
     let replayed = is_replayed(fs, alloc)?;
-    Ok(written && replayed && ends(fs, alloc, &handle)? == (85, 61))
+    Ok(written && read && replayed && ends(fs, alloc, &handle)? == (85, 61))
+}
+
+fn is_read_back(alloc: Global) -> Result<bool, FsFault> {
+    let mut fs = MemoryFileSystem::new(alloc);
+    is_written_and_read(&mut fs, alloc)
 }
 
 #[test]
-fn written_bytes_are_read_back(rt: HostRuntime) -> Result<(), Fail> {
-    let mut fs = MemoryFileSystem::new(rt.alloc());
-    assert!(rt; is_written_and_read(&mut fs, rt.alloc())?);
-    Ok(())
+fn written_bytes_are_read_back(rt: HostRuntime) {
+    let held = is_read_back(rt.alloc());
+    assert!(rt; matches!(held, Ok(true)), "{held:?}");
 }

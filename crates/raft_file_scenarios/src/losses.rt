@@ -1,13 +1,13 @@
 //! What is told before an opening of what it loses.
 
+use crate::told::{assert_row, assert_rows};
 use raft_config::{Config, RecoveryMode};
 use raft_env::FileSystem;
 use raft_inspect::{Cut, Losses, Passed, Unexplained, inspect};
 use raft_memory::MemoryFileSystem;
 use raft_records::{Fault, Fresh, LogQueue};
-use raft_rows::{FileParts, HEADER, PUT, PUTS, ZEROS, fill};
+use raft_rows::{FileParts, HEADER, PUT, PUTS, Row, ZEROS, fill};
 use std::alloc::Global;
-use std::test::Fail;
 
 /// A path, where the bytes begin that are cut off and how many there are, and why an unsynced tail
 /// doesn't explain them.
@@ -134,62 +134,91 @@ fn settings(alloc: Global, mode: RecoveryMode) -> Result<Config, Fault> {
     Ok(config)
 }
 
-fn is_wanted<F: FileSystem>(
+fn are_wanted<F: FileSystem>(
     fs: &mut F,
     alloc: Global,
-    cut: &Cut,
-    wanted: &WantedCut,
+    cuts: &[Cut],
+    wanted: &[WantedCut],
 ) -> Result<bool, Fault> {
-    let WantedCut(path, offset, len, unexplained) = wanted;
-    let bytes = cut.bytes(alloc, fs)?;
-    Ok(
-        cut.path.as_str() == *path
+    for (cut, WantedCut(path, offset, len, unexplained)) in cuts.iter().zip(wanted) {
+        let bytes = cut.bytes(alloc, fs)?;
+        let is_wanted = cut.path.as_str() == *path
             && cut.offset == *offset
             && cut.len == *len
             && bytes.len() == *len
-            && cut.unexplained(alloc, &bytes)? == *unexplained,
-    )
+            && cut.unexplained(alloc, &bytes)? == *unexplained;
+        if !is_wanted {
+            return Ok(false);
+        }
+    }
+    Ok(cuts.len() == wanted.len())
+}
+
+fn found<F: FileSystem>(fs: &mut F, alloc: Global, mode: RecoveryMode) -> Result<Losses, Fault> {
+    Losses::find(alloc, &settings(alloc, mode)?, fs)
 }
 
 fn is_told<F: FileSystem>(fs: &mut F, alloc: Global, case: &Case) -> Result<bool, Fault> {
     let Case(files, mode, fails, cuts, passed) = case;
     fill(fs, alloc, files)?;
-    let losses = Losses::find(alloc, &settings(alloc, *mode)?, fs)?;
-    if losses.fails != *fails || losses.cuts.len() != cuts.len() {
-        return Ok(false);
+    let losses = found(fs, alloc, *mode)?;
+    let are_others_so = losses.fails == *fails && losses.passed.as_slice() == *passed;
+    Ok(are_others_so && are_wanted(fs, alloc, &losses.cuts, cuts)?)
+}
+
+impl Row for Case {
+    type State = ();
+
+    fn holds(&self, alloc: Global, _: &mut ()) -> Result<bool, Fault> {
+        let mut fs = MemoryFileSystem::new(alloc);
+        is_told(&mut fs, alloc, self)
     }
-    for (cut, wanted) in losses.cuts.iter().zip(cuts.iter()) {
-        if !is_wanted(fs, alloc, cut, wanted)? {
-            return Ok(false);
-        }
-    }
-    Ok(losses.passed.as_slice() == *passed)
 }
 
 #[test]
-fn losses_are_told_before_an_opening(rt: HostRuntime) -> Result<(), Fail> {
-    for (place, case) in CASES.iter().enumerate() {
-        let mut fs = MemoryFileSystem::new(rt.alloc());
-        assert!(rt; is_told(&mut fs, rt.alloc(), case)?, "case {place}");
+fn losses_are_told_before_an_opening(rt: HostRuntime) {
+    assert_rows(&rt, rt.alloc(), &mut (), &CASES);
+}
+
+// Whether the last file that holds nothing is told, or none.
+fn is_last<F: FileSystem>(fs: &mut F, alloc: Global, row: &EmptyLast) -> Result<bool, Fault> {
+    let EmptyLast(files, queue, wanted) = row;
+    fill(fs, alloc, files)?;
+    let found = inspect(alloc, fs, &["a", "b"], *queue)?;
+    let Some(path) = found.empty_last() else {
+        return Ok(wanted.is_none());
+    };
+    Ok(match wanted {
+        Some(wanted) => *path == **wanted,
+        None => false,
+    })
+}
+
+impl Row for EmptyLast {
+    type State = ();
+
+    fn holds(&self, alloc: Global, _: &mut ()) -> Result<bool, Fault> {
+        let mut fs = MemoryFileSystem::new(alloc);
+        is_last(&mut fs, alloc, self)
     }
-    Ok(())
 }
 
 #[test]
-fn a_last_file_that_holds_nothing_is_told(rt: HostRuntime) -> Result<(), Fail> {
-    for (place, EmptyLast(files, queue, wanted)) in EMPTY_LASTS.iter().enumerate() {
-        let mut fs = MemoryFileSystem::new(rt.alloc());
-        fill(&mut fs, rt.alloc(), files)?;
-        let found = inspect(rt.alloc(), &mut fs, &["a", "b"], *queue)?;
-        assert_eq!(rt; found.empty_last(), *wanted, "case {place}");
-    }
-    Ok(())
+fn a_last_file_that_holds_nothing_is_told(rt: HostRuntime) {
+    assert_rows(&rt, rt.alloc(), &mut (), &EMPTY_LASTS);
+}
+
+fn loses_nothing<F: FileSystem>(fs: &mut F, alloc: Global) -> Result<bool, Fault> {
+    let losses = found(fs, alloc, TAIL)?;
+    Ok(!losses.fails && losses.cuts.is_empty() && losses.passed.is_empty())
+}
+
+fn nothing_is_lost(alloc: Global) -> Result<bool, Fault> {
+    let mut fs = MemoryFileSystem::new(alloc);
+    loses_nothing(&mut fs, alloc)
 }
 
 #[test]
-fn folders_that_are_not_there_have_no_files(rt: HostRuntime) -> Result<(), Fail> {
-    let mut fs = MemoryFileSystem::new(rt.alloc());
-    let losses = Losses::find(rt.alloc(), &settings(rt.alloc(), TAIL)?, &mut fs)?;
-    assert!(rt; !losses.fails && losses.cuts.is_empty() && losses.passed.is_empty());
-    Ok(())
+fn folders_that_are_not_there_have_no_files(rt: HostRuntime) {
+    assert_row(&rt, nothing_is_lost(rt.alloc()), "no folders");
 }

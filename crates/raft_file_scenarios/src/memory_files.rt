@@ -1,5 +1,6 @@
 //! Files in memory: calls and looks at them, refusals and crashes, one after the other.
 
+use crate::failing::Failing;
 use raft_env::{FileSystem, FsFault, IoKind, Permission};
 use raft_memory::{Choice, FsCall, MemoryFileSystem};
 use raft_records::Fault;
@@ -230,11 +231,6 @@ fn writer_of<F: FileSystem>(
     fs.new_writer(&handle)
 }
 
-fn size_is<F: FileSystem>(fs: &mut F, path: &str, size: usize) -> Result<bool, FsFault> {
-    let handle = fs.open(path, Permission::ReadOnly)?;
-    Ok(fs.file_size(&handle)? == size)
-}
-
 // A failed read is counted by its reader, and by the files when the reader is given back.
 fn reads<F: FileSystem>(
     alloc: Global,
@@ -254,11 +250,12 @@ fn reads<F: FileSystem>(
 
 fn lists<F: FileSystem>(fs: &mut F, dir: &str, wanted: &[&str]) -> Result<bool, FsFault> {
     let names = fs.list(dir)?;
-    let are_equal = names
-        .iter()
-        .zip(wanted.iter())
-        .all(|(name, wanted)| name.as_str() == *wanted);
-    Ok(names.len() == wanted.len() && are_equal)
+    for (name, wanted) in names.iter().zip(wanted) {
+        if name.as_str() != *wanted {
+            return Ok(false);
+        }
+    }
+    Ok(names.len() == wanted.len())
 }
 
 fn change_bytes<F: FileSystem>(
@@ -275,28 +272,31 @@ fn change_bytes<F: FileSystem>(
     }
 }
 
-fn change_file<F: FileSystem>(fs: &mut F, path: &str, call: &Call) -> Result<(), FsFault> {
-    let mut writer = writer_of(fs, path, Permission::ReadWrite)?;
-    change_bytes(fs, &mut writer, call)
-}
-
-fn reuse<F: FileSystem>(fs: &mut F, from: &str, to: &str) -> Result<(), FsFault> {
-    let handle = fs.reuse_and_open(from, to)?;
-    fs.new_writer(&handle).map(|_| ())
-}
-
 fn change<F: FileSystem>(fs: &mut F, call: &Call) -> Result<(), FsFault> {
     match call {
         Call::MakeDir(path) => fs.make_dir(path),
-        Call::Create(path) => fs.create(path).map(|_| ()),
-        Call::Writer(path, permission) => writer_of(fs, path, *permission).map(|_| ()),
+        Call::Create(path) => {
+            fs.create(path)?;
+            Ok(())
+        }
+        Call::Writer(path, permission) => {
+            writer_of(fs, path, *permission)?;
+            Ok(())
+        }
         Call::Write(path, _, _)
         | Call::Truncate(path, _)
         | Call::Allocate(path, _, _)
-        | Call::Sync(path) => change_file(fs, path, call),
+        | Call::Sync(path) => {
+            let mut writer = writer_of(fs, path, Permission::ReadWrite)?;
+            change_bytes(fs, &mut writer, call)
+        }
         Call::Delete(path) => fs.delete(path),
         Call::Rename(from, to) => fs.rename(from, to),
-        Call::Reuse(from, to) => reuse(fs, from, to),
+        Call::Reuse(from, to) => {
+            let handle = fs.reuse_and_open(from, to)?;
+            fs.new_writer(&handle)?;
+            Ok(())
+        }
         _ => Ok(()),
     }
 }
@@ -304,7 +304,10 @@ fn change<F: FileSystem>(fs: &mut F, call: &Call) -> Result<(), FsFault> {
 // Whether the call is answered as it says.
 fn is_answered<F: FileSystem>(alloc: Global, fs: &mut F, call: &Call) -> Result<bool, FsFault> {
     match call {
-        Call::Size(path, size) => size_is(fs, path, *size),
+        Call::Size(path, size) => {
+            let handle = fs.open(path, Permission::ReadOnly)?;
+            Ok(fs.file_size(&handle)? == *size)
+        }
         Call::Read(path, count, bytes) => reads(alloc, fs, path, *count, bytes),
         Call::List(dir, names) => lists(fs, dir, names),
         _ => {
@@ -325,26 +328,26 @@ fn choices(alloc: Global, left: &Left) -> Result<Vec<Choice>, AllocError> {
     Ok(vec![in alloc; choice]?)
 }
 
-fn leaves(
+fn leaves<F: Failing>(
     alloc: Global,
-    fs: &MemoryFileSystem,
+    fs: &F,
     left: &Left,
     count: usize,
     bytes: &[u8],
 ) -> Result<bool, Fail> {
-    let mut after = fs.crash(&choices(alloc, left)?)?;
+    let mut after = fs.crashed(&choices(alloc, left)?)?;
     Ok(reads(alloc, &mut after, "a", count, bytes)?)
 }
 
-fn leaves_not(alloc: Global, fs: &MemoryFileSystem, left: &Left) -> Result<bool, AllocError> {
-    match fs.crash(&choices(alloc, left)?) {
+fn leaves_not<F: Failing>(alloc: Global, fs: &F, left: &Left) -> Result<bool, AllocError> {
+    match fs.crashed(&choices(alloc, left)?) {
         Ok(_) => Ok(false),
         Err(fault) => Ok(fault.code() == 1),
     }
 }
 
 // Whether the step comes to what the script says.
-fn holds(alloc: Global, fs: &mut MemoryFileSystem, step: &Step) -> Result<bool, Fail> {
+fn holds<F: Failing>(alloc: Global, fs: &mut F, step: &Step) -> Result<bool, Fail> {
     match step {
         Step::Does(wanted) => Ok(is_answered(alloc, fs, wanted)?),
         Step::Refuses(wanted, kind) => Ok(
@@ -353,10 +356,10 @@ fn holds(alloc: Global, fs: &mut MemoryFileSystem, step: &Step) -> Result<bool, 
         Step::IsFolder(path, wanted) => Ok(fs.is_dir(path) == *wanted),
         Step::IsFile(path, wanted) => Ok(fs.is_file(path) == *wanted),
         Step::Refused(count) => Ok(fs.refusals() == *count),
-        Step::Arm(sort, nth) => Ok(fs.refuse(*sort, *nth, IoKind::NoSpace).is_ok()),
-        Step::ArmNone(sort) => Ok(fs.refuse(*sort, 0, IoKind::NoSpace).is_err()),
+        Step::Arm(sort, nth) => Ok(fs.fail(*sort, *nth, IoKind::NoSpace).is_ok()),
+        Step::ArmNone(sort) => Ok(fs.fail(*sort, 0, IoKind::NoSpace).is_err()),
         Step::Stop(nth) => {
-            fs.stop_at(*nth);
+            fs.stop(*nth);
             Ok(true)
         }
         Step::Leaves(left, count, bytes) => leaves(alloc, fs, left, *count, bytes),
@@ -364,21 +367,26 @@ fn holds(alloc: Global, fs: &mut MemoryFileSystem, step: &Step) -> Result<bool, 
     }
 }
 
-// The place of the first step that comes to something else.
-fn first_wrong(alloc: Global, script: &Script) -> Result<Option<usize>, Fail> {
-    let mut fs = MemoryFileSystem::new(alloc);
+// Plays the steps, and tells the first that comes to something else.
+fn play<F: Failing>(alloc: Global, script: &Script) -> Result<(), Fail> {
+    let mut fs = F::fresh(alloc);
     for (place, wanted) in script.steps.iter().enumerate() {
         if !holds(alloc, &mut fs, wanted)? {
-            return Ok(Some(place));
+            let name = script.name;
+            return Err(Fail::new(format_args!("{name}: step {place}")));
         }
     }
-    Ok(None)
+    Ok(())
+}
+
+fn play_in_memory(alloc: Global, script: &Script) -> Result<(), Fail> {
+    play::<MemoryFileSystem>(alloc, script)
 }
 
 #[test]
 fn files_are_as_the_scripts_say(rt: HostRuntime) -> Result<(), Fail> {
     for script in &scripts() {
-        assert_eq!(rt; first_wrong(rt.alloc(), script)?, None, "{}", script.name);
+        play_in_memory(rt.alloc(), script)?;
     }
     Ok(())
 }

@@ -1,12 +1,12 @@
 //! The names of log files, their headers, and the zeros between records.
 
+use crate::told::assert_rows;
 use raft_files::{
     FileNameExt, LogFileFormat, build_reserved_file_name, is_zero_padded, parse_reserved_file_name,
 };
 use raft_records::{Fault, FileId, LogQueue, Version};
-use raft_rows::{Row, first_wrong};
+use raft_rows::Row;
 use std::alloc::Global;
-use std::test::Fail;
 
 /// A name, the log file that it is parsed to, and the number of the reserved file.
 struct Parsed(&'static str, Option<(LogQueue, u64)>, Option<u64>);
@@ -60,9 +60,8 @@ impl Row for Parsed {
 }
 
 #[test]
-fn names_are_parsed(rt: HostRuntime) -> Result<(), Fail> {
-    assert_eq!(rt; first_wrong(rt.alloc(), &mut (), &PARSED)?, None);
-    Ok(())
+fn names_are_parsed(rt: HostRuntime) {
+    assert_rows(&rt, rt.alloc(), &mut (), &PARSED);
 }
 
 /// A file's number, its name, its path in the folder `data`, and its name as a reserved file.
@@ -108,9 +107,8 @@ impl Row for Built {
 }
 
 #[test]
-fn names_are_built(rt: HostRuntime) -> Result<(), Fail> {
-    assert_eq!(rt; first_wrong(rt.alloc(), &mut (), &BUILT)?, None);
-    Ok(())
+fn names_are_built(rt: HostRuntime) {
+    assert_rows(&rt, rt.alloc(), &mut (), &BUILT);
 }
 
 const MAGIC: &[u8] = b"RAFT-LOG-FILE-HEADER-9986AB3E47F320B394C8E84916EB0ED5";
@@ -163,9 +161,8 @@ impl Row for Header {
 }
 
 #[test]
-fn headers_are_written_and_read(rt: HostRuntime) -> Result<(), Fail> {
-    assert_eq!(rt; first_wrong(rt.alloc(), &mut (), &HEADERS)?, None);
-    Ok(())
+fn headers_are_written_and_read(rt: HostRuntime) {
+    assert_rows(&rt, rt.alloc(), &mut (), &HEADERS);
 }
 
 /// Bytes that begin with no header.
@@ -195,9 +192,8 @@ impl Row for NoHeader {
 }
 
 #[test]
-fn other_headers_are_refused(rt: HostRuntime) -> Result<(), Fail> {
-    assert_eq!(rt; first_wrong(rt.alloc(), &mut (), &NO_HEADERS)?, None);
-    Ok(())
+fn other_headers_are_refused(rt: HostRuntime) {
+    assert_rows(&rt, rt.alloc(), &mut (), &NO_HEADERS);
 }
 
 /// Bytes between records, and whether they pass for padding.
@@ -220,7 +216,6 @@ impl Row for Padding {
 }
 
 #[test]
-fn padding_is_zero_at_both_ends(rt: HostRuntime) -> Result<(), Fail> {
-    assert_eq!(rt; first_wrong(rt.alloc(), &mut (), &PADDINGS)?, None);
-    Ok(())
+fn padding_is_zero_at_both_ends(rt: HostRuntime) {
+    assert_rows(&rt, rt.alloc(), &mut (), &PADDINGS);
 }

@@ -1,11 +1,13 @@
 //! Openings that fail: what they say, and that what stood there stands as it did.
 
+use crate::in_folder::{InFolder, try_in_folder};
+use crate::reads::{place_in, text_of, write_at};
 use raft_disk::DiskFileSystem;
-use raft_rows::temp_folder;
 use std::alloc::AllocError;
+use std::fs::{self, DirEntry};
+use std::io;
 use std::os::unix::fs::symlink;
 use std::test::Fail;
-use std::{fs, io};
 
 /// What stands in the test's folder, by its name.
 enum Made {
@@ -87,24 +89,31 @@ const CASES: [Case; 7] = [
     },
 ];
 
-fn place_of(rt: &HostRuntime, folder: &str, name: &str) -> Result<String, AllocError> {
-    format!(in rt.alloc(); "{folder}/{name}")
-}
-
 fn make(rt: &HostRuntime, folder: &str, made: &Made) -> io::Result<()> {
     match made {
-        Made::Folder(name) => fs::create_dir(rt, place_of(rt, folder, name)?.as_str()),
-        Made::File(name) => fs::write(rt, place_of(rt, folder, name)?.as_str(), b"kept"),
+        Made::Folder(name) => fs::create_dir(rt, place_in(rt, folder, name)?.as_str()),
+        Made::File(name) => write_at(rt, folder, name, b"kept"),
         Made::Link(name, link) => {
-            let link = place_of(rt, folder, link)?;
+            let link = place_in(rt, folder, link)?;
             symlink(rt, *name, link.as_str())
         }
         Made::Name(name, second) => {
-            let place = place_of(rt, folder, name)?;
-            let second = place_of(rt, folder, second)?;
+            let place = place_in(rt, folder, name)?;
+            let second = place_in(rt, folder, second)?;
             fs::hard_link(rt, place.as_str(), second.as_str())
         }
     }
+}
+
+fn add_line(rt: &HostRuntime, entry: &DirEntry, lines: &mut Vec<String>) -> Result<(), Fail> {
+    let name = entry.file_name();
+    if !entry.metadata()?.is_file() {
+        lines.push(format!(in rt.alloc(); "{name}")?)?;
+    } else if name != "LOCK" {
+        let text = fs::read_to_string(rt, entry.path())?;
+        lines.push(format!(in rt.alloc(); "{name}: {text}")?)?;
+    }
+    Ok(())
 }
 
 // The names in a folder, and the texts of the files, but for a lock's file.
@@ -112,24 +121,15 @@ fn standing(rt: &HostRuntime, folder: &str) -> Result<Vec<String>, Fail> {
     let mut lines = Vec::new(rt.alloc());
     for entry in fs::read_dir(rt, folder)? {
         let entry = entry?;
-        let name = entry.file_name();
-        if !entry.metadata()?.is_file() {
-            lines.push(format!(in rt.alloc(); "{name}")?)?;
-        } else if name != "LOCK" {
-            let text = fs::read_to_string(rt, entry.path())?;
-            lines.push(format!(in rt.alloc(); "{name}: {text}")?)?;
-        }
+        add_line(rt, &entry, &mut lines)?;
     }
     lines.sort()?;
     Ok(lines)
 }
 
 // What an opening says, which is nothing where it doesn't fail.
-fn fault_of(rt: HostRuntime, place: &str) -> Result<String, Fail> {
-    match DiskFileSystem::open(rt, place) {
-        Ok(_) => Ok(String::new(rt.alloc())),
-        Err(fault) => Ok(format!(in rt.alloc(); "{fault}")?),
-    }
+fn fault_of(rt: HostRuntime, place: &str) -> Result<String, AllocError> {
+    text_of(&rt, DiskFileSystem::open(rt, place))
 }
 
 // Whether the opening fails with this text, and leaves what stood there.
@@ -144,14 +144,16 @@ fn fails_so(rt: HostRuntime, folder: &str, case: &Case) -> Result<bool, Fail> {
     Ok(fault.starts_with(wanted.as_str()) && standing(&rt, folder)? == before)
 }
 
+impl InFolder for Case {
+    fn holds(&self, rt: HostRuntime, folder: &str) -> Result<bool, Fail> {
+        fails_so(rt, folder, self)
+    }
+}
+
 #[test]
 fn openings_fail_without_a_change(rt: HostRuntime) -> Result<(), Fail> {
     for (place, case) in CASES.iter().enumerate() {
-        let folder = temp_folder(&rt, "openings")?;
-        let fails = fails_so(rt, folder.as_str(), case);
-        let removed = fs::remove_dir_all(&rt, folder.as_str());
-        assert!(rt; fails?, "{place}");
-        removed?;
+        try_in_folder(rt, "openings", place, case)?;
     }
     Ok(())
 }
@@ -159,21 +161,25 @@ fn openings_fail_without_a_change(rt: HostRuntime) -> Result<(), Fail> {
 // What a second opening says, and a third after the first has ended.
 fn opened_again(rt: HostRuntime, folder: &str) -> Result<(String, String), Fail> {
     let first = DiskFileSystem::open(rt, folder)?;
-    let second = fault_of(rt, folder)?;
+    let second = fault_of(rt, folder);
     drop(first);
-    Ok((second, fault_of(rt, folder)?))
+    Ok((second?, fault_of(rt, folder)?))
+}
+
+#[derive(Drop)]
+struct OpenOnce;
+
+impl InFolder for OpenOnce {
+    fn holds(&self, rt: HostRuntime, folder: &str) -> Result<bool, Fail> {
+        let (second, third) = opened_again(rt, folder)?;
+        let wanted = format!(in rt.alloc(); "{folder}: it is open already")?;
+        Ok(second == wanted && third.is_empty())
+    }
 }
 
 #[test]
 fn a_folder_is_open_once(rt: HostRuntime) -> Result<(), Fail> {
-    let folder = temp_folder(&rt, "once")?;
-    let said = opened_again(rt, folder.as_str());
-    let removed = fs::remove_dir_all(&rt, folder.as_str());
-    let (second, third) = said?;
-    let wanted = format!(in rt.alloc(); "{folder}: it is open already")?;
-    assert_eq!(rt; second, wanted);
-    assert_eq!(rt; third.as_str(), "");
-    Ok(removed?)
+    try_in_folder(rt, "once", 0, &OpenOnce)
 }
 
 // What the opening of a read-only folder says, or nothing where this user may write to it, as root.
@@ -188,12 +194,22 @@ fn read_only(rt: HostRuntime, folder: &str) -> Result<Option<String>, Fail> {
     Ok(Some(fault_of(rt, folder)?))
 }
 
+const DENIED: &str = "its lock cannot be opened: Permission denied";
+
+#[derive(Drop)]
+struct Writable;
+
+impl InFolder for Writable {
+    fn holds(&self, rt: HostRuntime, folder: &str) -> Result<bool, Fail> {
+        let Some(fault) = read_only(rt, folder)? else {
+            return Ok(true);
+        };
+        let wanted = format!(in rt.alloc(); "{folder}: {DENIED}")?;
+        Ok(fault.starts_with(wanted.as_str()))
+    }
+}
+
 #[test]
 fn a_folder_has_to_be_writable(rt: HostRuntime) -> Result<(), Fail> {
-    let folder = temp_folder(&rt, "read-only")?;
-    let wanted = format!(in rt.alloc(); "{folder}: its lock cannot be opened: Permission denied")?;
-    let said = read_only(rt, folder.as_str());
-    let removed = fs::remove_dir_all(&rt, folder.as_str());
-    assert!(rt; said?.is_none_or(|fault| fault.starts_with(wanted.as_str())));
-    Ok(removed?)
+    try_in_folder(rt, "read-only", 0, &Writable)
 }

@@ -1,13 +1,13 @@
 //! A file of more than one part: what is read of its parts is what stands in it.
 
+use crate::told::assert_rows;
 use raft_base::History;
 use raft_dump::{LogFile, LogItemReader};
 use raft_env::FileSystem;
 use raft_parts::{FilePart, LogFileParts, PartSource, check_parts};
 use raft_records::{Fault, FileId, LogQueue};
-use raft_rows::{HEADER, PUT, ZEROS};
+use raft_rows::{HEADER, PUT, Row, ZEROS};
 use std::alloc::{AllocError, Global};
-use std::test::Fail;
 
 const PATH: &str = "0000000000000001.raftlog";
 
@@ -141,28 +141,34 @@ struct Dumped {
     stop: Option<Fault>,
 }
 
-// Those of one part; where it stops is a place in the part's image.
-fn count_items<F: FileSystem>(alloc: Global, image: &mut F) -> Result<Dumped, Fault> {
-    let mut reader = LogItemReader::new(alloc, vec![in alloc; file(alloc)?]?);
+fn count<F: FileSystem>(reader: &mut LogItemReader<F>, image: &mut F) -> Dumped {
     let mut items: usize = 0;
     for _ in 0..u64::MAX {
         match (reader.next(image), reader.place()) {
             (Some(Ok(_)), _) => items = items.saturating_add(1),
             (Some(Err(fault)), Some(place)) => {
-                return Ok(Dumped {
+                return Dumped {
                     items,
                     end: place.offset,
                     stop: Some(fault),
-                });
+                };
             }
             _ => break,
         }
     }
-    Ok(Dumped {
+    Dumped {
         items,
         end: usize::MAX,
         stop: None,
-    })
+    }
+}
+
+// Those of one part; where it stops is a place in the part's image.
+fn count_items<F: FileSystem>(alloc: Global, image: &mut F) -> Result<Dumped, Fault> {
+    let mut reader = LogItemReader::new(alloc, vec![in alloc; file(alloc)?]?);
+    let counted = count(&mut reader, image);
+    drop(reader);
+    Ok(counted)
 }
 
 fn dump_parts(alloc: Global, bytes: &[u8]) -> Result<Dumped, Fault> {
@@ -194,12 +200,16 @@ fn is_dumped(alloc: Global, bytes: &[u8], case: &Case) -> Result<bool, Fault> {
     )
 }
 
-#[test]
-fn parts_give_what_stands_in_their_file(rt: HostRuntime) -> Result<(), Fail> {
-    for (place, case) in CASES.iter().enumerate() {
-        let bytes = bytes_of(rt.alloc(), case)?;
-        assert!(rt; is_checked(rt.alloc(), &bytes, case)?, "check {place}");
-        assert!(rt; is_dumped(rt.alloc(), &bytes, case)?, "dump {place}");
+impl Row for Case {
+    type State = ();
+
+    fn holds(&self, alloc: Global, _: &mut ()) -> Result<bool, Fault> {
+        let bytes = bytes_of(alloc, self)?;
+        Ok(is_checked(alloc, &bytes, self)? && is_dumped(alloc, &bytes, self)?)
     }
-    Ok(())
+}
+
+#[test]
+fn parts_give_what_stands_in_their_file(rt: HostRuntime) {
+    assert_rows(&rt, rt.alloc(), &mut (), &CASES);
 }

@@ -5,6 +5,7 @@ ghost use Rattle.std.specs.Option.{IfSome};
 ghost use Rattle.raft_files.specs.FileRecords.{ReadsIn};
 ghost use Rattle.raft_files.specs.Writer.{bytes_at};
 
+use crate::told::assert_row;
 use raft_env::{FileSystem, FsFault};
 use raft_files::{FileRecordReader, LogFileFormat, LogFileReader};
 use raft_memory::MemoryFileSystem;
@@ -13,7 +14,6 @@ use raft_records::{
     LogItemContent, LogQueue, Version,
 };
 use std::alloc::Global;
-use std::test::Fail;
 
 const PATH: &str = "log";
 
@@ -342,17 +342,20 @@ fn is_read<F: FileSystem>(fs: &mut F, alloc: Global, case: &Case) -> Result<bool
     }
 }
 
-fn has_header<F: FileSystem>(fs: &mut F, bytes: &[u8]) -> bool {
-    matches!(format_of(fs, bytes), Ok(Some(_)))
+fn is_read_in_memory(alloc: Global, case: &Case) -> Result<bool, Fault> {
+    let mut fs = MemoryFileSystem::new(alloc);
+    is_read(&mut fs, alloc, case)
+}
+
+fn is_header(alloc: Global, bytes: &[u8]) -> bool {
+    let mut fs = MemoryFileSystem::new(alloc);
+    matches!(format_of(&mut fs, bytes), Ok(Some(_)))
 }
 
 #[test]
-fn records_are_read_or_refused(rt: HostRuntime) -> Result<(), Fail> {
+fn records_are_read_or_refused(rt: HostRuntime) {
     for case in &CASES {
-        let mut fs = MemoryFileSystem::new(rt.alloc());
-        assert!(rt; is_read(&mut fs, rt.alloc(), case)?, "{}", case.name);
+        assert_row(&rt, is_read_in_memory(rt.alloc(), case), case.name);
     }
-    let mut fs = MemoryFileSystem::new(rt.alloc());
-    assert!(rt; !has_header(&mut fs, PUT));
-    Ok(())
+    assert!(rt; !is_header(rt.alloc(), PUT));
 }

@@ -1,10 +1,12 @@
 //! What the system said of a call that it refused.
 
+use crate::calls::{Step, take_alone};
+use crate::in_folder::{InFolder, try_in_folder};
+use crate::reads::{place_in, write_at};
 use raft_disk::DiskFileSystem;
-use raft_env::{FileSystem, FsFault, Permission};
-use raft_rows::temp_folder;
-use std::fs;
+use std::alloc::AllocError;
 use std::test::Fail;
+use std::{fs, io};
 
 /// A name that no file and no folder can have, since it has 256 bytes.
 const LONG: &str = "\
@@ -22,15 +24,6 @@ const TOO_LONG: &str = "File name too long";
 
 const GONE: &str = "No such file or directory";
 
-enum Step {
-    Create(&'static str),
-    MakeDir(&'static str),
-    Rename(&'static str, &'static str),
-    Delete(&'static str),
-    /// Opens a file to be changed.
-    Writer(&'static str),
-}
-
 /// A call, what can't be done, with what, and the system's text; none where the system wasn't asked.
 struct Case(Step, Option<(&'static str, &'static str, &'static str)>);
 
@@ -44,35 +37,17 @@ static CASES: [Case; 7] = [
     Case(Step::Delete("none"), None),
 ];
 
-fn take(files: &mut DiskFileSystem, step: &Step) -> Result<(), FsFault> {
-    match step {
-        Step::Create(path) => files.create(path).map(|_| ()),
-        Step::MakeDir(path) => files.make_dir(path),
-        Step::Rename(from, to) => files.rename(from, to),
-        Step::Delete(path) => files.delete(path),
-        Step::Writer(path) => {
-            let handle = files.open(path, Permission::ReadWrite)?;
-            match files.new_writer(&handle) {
-                Ok(_) => Ok(()),
-                Err(fault) => Err(fault),
-            }
-        }
-    }
+fn lose(rt: &HostRuntime, folder: &str) -> io::Result<()> {
+    fs::remove_file(rt, place_in(rt, folder, LOST)?.as_str())
 }
 
-// Whether the call fails, and the folder tells what the system said.
-fn tells(rt: HostRuntime, folder: &str, case: &Case) -> Result<bool, Fail> {
-    for name in [A, LOST] {
-        let place = format!(in rt.alloc(); "{folder}/{name}")?;
-        fs::write(&rt, place.as_str(), b"kept")?;
-    }
-    let mut files = DiskFileSystem::open(rt, folder)?;
-    let lost = format!(in rt.alloc(); "{folder}/{LOST}")?;
-    fs::remove_file(&rt, lost.as_str())?;
-    let Case(step, wanted) = case;
-    if take(&mut files, step).is_ok() {
-        return Ok(false);
-    }
+// Whether the folder tells what the system said.
+fn is_told(
+    rt: &HostRuntime,
+    folder: &str,
+    files: &DiskFileSystem,
+    wanted: &Option<(&'static str, &'static str, &'static str)>,
+) -> Result<bool, AllocError> {
     match (files.refusal(), wanted) {
         (Some(refusal), Some((call, name, text))) => {
             let said = format!(in rt.alloc(); "{folder}/{name}: it cannot be {call}: {text}")?;
@@ -83,14 +58,34 @@ fn tells(rt: HostRuntime, folder: &str, case: &Case) -> Result<bool, Fail> {
     }
 }
 
+// Whether the call fails, and that is told.
+fn tells(
+    rt: &HostRuntime,
+    folder: &str,
+    files: &mut DiskFileSystem,
+    case: &Case,
+) -> Result<bool, Fail> {
+    lose(rt, folder)?;
+    let Case(step, wanted) = case;
+    if take_alone(files, step).is_ok() {
+        return Ok(false);
+    }
+    Ok(is_told(rt, folder, files, wanted)?)
+}
+
+impl InFolder for Case {
+    fn holds(&self, rt: HostRuntime, folder: &str) -> Result<bool, Fail> {
+        write_at(&rt, folder, A, b"kept")?;
+        write_at(&rt, folder, LOST, b"kept")?;
+        let mut files = DiskFileSystem::open(rt, folder)?;
+        tells(&rt, folder, &mut files, self)
+    }
+}
+
 #[test]
 fn refused_calls_are_told(rt: HostRuntime) -> Result<(), Fail> {
     for (place, case) in CASES.iter().enumerate() {
-        let folder = temp_folder(&rt, "refusals")?;
-        let told = tells(rt, folder.as_str(), case);
-        let removed = fs::remove_dir_all(&rt, folder.as_str());
-        assert!(rt; told?, "{place}");
-        removed?;
+        try_in_folder(rt, "refusals", place, case)?;
     }
     Ok(())
 }

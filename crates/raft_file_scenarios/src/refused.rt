@@ -1,30 +1,14 @@
 //! Dumps in which a call on the files fails: the rest is given as before.
 
+use crate::failing::Failing;
+use crate::told::assert_right;
 use raft_dump::{LogItemReader, dump_with_file_system};
 use raft_env::{FileSystem, IoKind};
 use raft_memory::{FsCall, MemoryFileSystem};
-use raft_records::Fault;
+use raft_records::{Fault, LogItem};
 use raft_rows::{FileParts, HEADER, PUT, PUTS, fill};
-use std::alloc::Global;
+use std::alloc::{AllocError, Global};
 use std::test::Fail;
-
-/// Files whose calls fail as they are told.
-trait Failing: FileSystem + Drop {
-    fn fresh(alloc: Global) -> Self;
-
-    /// The nth call of a sort fails from now on.
-    fn fail(&mut self, call: FsCall, nth: u64, kind: IoKind) -> Result<(), Fault>;
-}
-
-impl Failing for MemoryFileSystem {
-    fn fresh(alloc: Global) -> MemoryFileSystem {
-        MemoryFileSystem::new(alloc)
-    }
-
-    fn fail(&mut self, call: FsCall, nth: u64, kind: IoKind) -> Result<(), Fault> {
-        self.refuse(call, nth, kind)
-    }
-}
 
 const FILES: &[FileParts] = &[
     ("a/0000000000000001.raftlog", &[HEADER, PUTS]),
@@ -72,33 +56,52 @@ fn is_by(fault: &Fault, cause: Cause) -> bool {
     }
 }
 
-// What the dump gives: none where something fails for another reason.
-fn walked<F: FileSystem>(
-    alloc: Global,
-    fs: &mut F,
-    mut items: LogItemReader<F>,
-    cause: Cause,
-) -> Result<Option<Vec<u64>>, Fault> {
-    let mut given = Vec::new(alloc);
-    for _ in 0..MANY {
-        match items.next(fs) {
-            Some(Ok(item)) => given.push(item.raft_group_id)?,
-            Some(Err(fault)) if is_by(&fault, cause) => given.push(FAILED)?,
-            Some(Err(_)) => return Ok(None),
-            None => return Ok(Some(given)),
+fn group_of(next: Result<LogItem, Fault>, cause: Cause) -> Option<u64> {
+    match next {
+        Ok(item) => Some(item.raft_group_id),
+        Err(fault) => {
+            if is_by(&fault, cause) {
+                Some(FAILED)
+            } else {
+                None
+            }
         }
     }
-    Ok(None)
 }
 
-// What a dump of the folder gives; only its own failure, where it can't be begun.
+// Whether the dump ends, and nothing in it fails for another reason.
+fn ends<F: FileSystem>(
+    fs: &mut F,
+    items: &mut LogItemReader<F>,
+    cause: Cause,
+    given: &mut Vec<u64>,
+) -> Result<bool, AllocError> {
+    for _ in 0..MANY {
+        let Some(next) = items.next(fs) else {
+            return Ok(true);
+        };
+        let Some(group) = group_of(next, cause) else {
+            return Ok(false);
+        };
+        given.push(group)?;
+    }
+    Ok(false)
+}
+
+// What a dump of the folder gives: only its own failure, where it can't be begun; none where
+// something fails for another reason.
 fn dumped<F: FileSystem>(
     alloc: Global,
     fs: &mut F,
     cause: Cause,
 ) -> Result<Option<Vec<u64>>, Fault> {
     match dump_with_file_system(alloc, "a", fs) {
-        Ok(items) => walked(alloc, fs, items, cause),
+        Ok(mut items) => {
+            let mut given = Vec::new(alloc);
+            let is_walked = ends(fs, &mut items, cause, &mut given);
+            drop(items);
+            Ok(if is_walked? { Some(given) } else { None })
+        }
         Err(fault) if is_by(&fault, cause) => Ok(Some(vec![in alloc; FAILED]?)),
         Err(_) => Ok(None),
     }
@@ -111,12 +114,19 @@ fn is_whole(given: &Option<Vec<u64>>) -> bool {
     }
 }
 
+// Whether the dump failed at once, or at one of the files alone.
+fn has_failed_once(given: &[u64]) -> bool {
+    for without in &WITHOUT {
+        if given == *without {
+            return true;
+        }
+    }
+    given == [FAILED].as_slice()
+}
+
 fn is_without_one(given: &Option<Vec<u64>>) -> bool {
     match given {
-        Some(given) => {
-            given.as_slice() == [FAILED].as_slice()
-                || WITHOUT.iter().any(|without| given.as_slice() == *without)
-        }
+        Some(given) => has_failed_once(given),
         None => false,
     }
 }
@@ -161,8 +171,8 @@ fn count_failing<F: Failing>(
 // The place of the first sort whose failing calls come to something else.
 fn first_wrong<F: Failing>(alloc: Global) -> Result<Option<usize>, Fault> {
     for (place, sort) in SORTS.iter().enumerate() {
-        for kind in KINDS {
-            match count_failing::<F>(alloc, sort.0, kind)? {
+        for kind in &KINDS {
+            match count_failing::<F>(alloc, sort.0, *kind)? {
                 Some(count) if count >= sort.1 => {}
                 _ => return Ok(Some(place)),
             }
@@ -171,10 +181,13 @@ fn first_wrong<F: Failing>(alloc: Global) -> Result<Option<usize>, Fault> {
     Ok(None)
 }
 
+fn wrong_sort(alloc: Global) -> Result<Option<usize>, Fault> {
+    first_wrong::<MemoryFileSystem>(alloc)
+}
+
 #[test]
-fn a_failing_call_fails_its_file_alone(rt: HostRuntime) -> Result<(), Fail> {
-    assert_eq!(rt; first_wrong::<MemoryFileSystem>(rt.alloc())?, None);
-    Ok(())
+fn a_failing_call_fails_its_file_alone(rt: HostRuntime) {
+    assert_right(&rt, wrong_sort(rt.alloc()));
 }
 
 // Whether a dump gives all; with the Nth request for memory refused (`rt try --test --fail-alloc
@@ -189,6 +202,7 @@ fn is_given<F: Failing>(alloc: Global) -> Result<bool, Fault> {
     )
 }
 
+// tools/refusals takes `error: Memory` for a want of memory.
 #[test]
 fn a_dump_without_memory_goes_on(rt: HostRuntime) -> Result<(), Fail> {
     assert!(rt; is_given::<MemoryFileSystem>(rt.alloc())?);

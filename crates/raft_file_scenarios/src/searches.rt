@@ -1,9 +1,9 @@
 //! Searches for stale records among bytes that are no log's.
 
+use crate::told::assert_case;
 use raft_dump::{StaleSearch, search_stale};
 use raft_records::{Fault, FileId, LogQueue};
 use std::alloc::Global;
-use std::test::Fail;
 
 /// The header of a record of 8,192 bytes, of which the last sixteen are its footer.
 const HEAD: [u8; 16] = [0, 0, 0, 0, 0, 0x20, 0, 0, 0, 0, 0, 0, 0, 0, 0x1f, 0xf0];
@@ -26,11 +26,13 @@ fn searched(alloc: Global, heads: usize) -> Result<StaleSearch, Fault> {
     search_stale(alloc, FileId::new(LogQueue::Append, 5), &bytes)
 }
 
+fn is_found(alloc: Global, heads: usize, wanted: &StaleSearch) -> Result<bool, Fault> {
+    Ok(searched(alloc, heads)? == *wanted)
+}
+
 #[test]
-fn a_search_ends(rt: HostRuntime) -> Result<(), Fail> {
-    for (heads, wanted) in &SEARCHES {
-        let found = searched(rt.alloc(), *heads)?;
-        assert!(rt; found == *wanted, "{heads} heads");
+fn a_search_ends(rt: HostRuntime) {
+    for (place, (heads, wanted)) in SEARCHES.iter().enumerate() {
+        assert_case(&rt, is_found(rt.alloc(), *heads, wanted), place);
     }
-    Ok(())
 }

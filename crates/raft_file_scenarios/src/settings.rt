@@ -1,10 +1,10 @@
 //! Settings: which are refused, and what becomes of the others.
 
+use crate::told::assert_rows;
 use raft_config::Config;
 use raft_records::{Fault, Fresh, ReadableSize, Version};
-use raft_rows::{Row, first_wrong};
+use raft_rows::Row;
 use std::alloc::Global;
-use std::test::Fail;
 
 const MB: u64 = 1 << 20;
 
@@ -108,7 +108,10 @@ fn limits_of(config: &Config) -> Limits {
         block_size: config.recovery_read_block_size.0,
         threads: config.recovery_threads,
         rewrite_threshold: config.rewrite_threshold().0,
-        prefill_limit: config.prefill_limit.map(|limit| limit.0),
+        prefill_limit: match config.prefill_limit {
+            Some(limit) => Some(limit.0),
+            None => None,
+        },
         recycle_capacity: config.recycle_capacity(),
         prefill_capacity: config.prefill_capacity(),
     }
@@ -136,7 +139,6 @@ impl Row for Settings {
 }
 
 #[test]
-fn settings_are_sanitized(rt: HostRuntime) -> Result<(), Fail> {
-    assert_eq!(rt; first_wrong(rt.alloc(), &mut (), &SETTINGS)?, None);
-    Ok(())
+fn settings_are_sanitized(rt: HostRuntime) {
+    assert_rows(&rt, rt.alloc(), &mut (), &SETTINGS);
 }

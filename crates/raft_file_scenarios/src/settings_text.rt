@@ -1,11 +1,11 @@
 //! Texts of settings: what they are read as, what is written for them, and which are refused.
 
+use crate::told::assert_rows;
 use raft_config::Config;
 use raft_records::{Fault, Fresh, ReadableSize};
-use raft_rows::{Row, first_wrong};
+use raft_rows::Row;
 use raft_settings::{read, with_text, write};
 use std::alloc::Global;
-use std::test::Fail;
 
 const DEFAULTS: &str = "\
 dir = \"\"
@@ -72,9 +72,8 @@ impl Row for Read {
 }
 
 #[test]
-fn texts_are_read_and_written(rt: HostRuntime) -> Result<(), Fail> {
-    assert_eq!(rt; first_wrong(rt.alloc(), &mut (), &TEXTS)?, None);
-    Ok(())
+fn texts_are_read_and_written(rt: HostRuntime) {
+    assert_rows(&rt, rt.alloc(), &mut (), &TEXTS);
 }
 
 /// A text that is refused, and why.
@@ -118,9 +117,8 @@ impl Row for Refused {
 }
 
 #[test]
-fn texts_are_refused(rt: HostRuntime) -> Result<(), Fail> {
-    assert_eq!(rt; first_wrong(rt.alloc(), &mut (), &REFUSED)?, None);
-    Ok(())
+fn texts_are_refused(rt: HostRuntime) {
+    assert_rows(&rt, rt.alloc(), &mut (), &REFUSED);
 }
 
 /// A text over the settings of another, and the size of the read block and the number of threads that come of it.
@@ -154,9 +152,8 @@ impl Row for Laid {
 }
 
 #[test]
-fn texts_are_laid_over_settings(rt: HostRuntime) -> Result<(), Fail> {
-    assert_eq!(rt; first_wrong(rt.alloc(), &mut (), &LAID)?, None);
-    Ok(())
+fn texts_are_laid_over_settings(rt: HostRuntime) {
+    assert_rows(&rt, rt.alloc(), &mut (), &LAID);
 }
 
 /// Settings from text, and what of them is used, or why they are refused.
@@ -225,20 +222,21 @@ impl Row for Sanitized {
 }
 
 #[test]
-fn sanitized_settings(rt: HostRuntime) -> Result<(), Fail> {
-    assert_eq!(rt; first_wrong(rt.alloc(), &mut (), &SANITIZED)?, None);
-    Ok(())
+fn sanitized_settings(rt: HostRuntime) {
+    assert_rows(&rt, rt.alloc(), &mut (), &SANITIZED);
+}
+
+fn is_written(alloc: Global, threads: usize, ratio: u64) -> bool {
+    let mut config = Config::fresh(alloc);
+    config.recovery_threads = threads;
+    config.purge_rewrite_garbage_ratio = ratio;
+    write(alloc, &config).is_ok()
 }
 
 /// Numbers that TOML doesn't have aren't written.
 #[test]
-fn great_numbers_are_refused(rt: HostRuntime) -> Result<(), Fail> {
-    let mut config = Config::fresh(rt.alloc());
-    config.recovery_threads = usize::MAX;
-    assert!(rt; write(rt.alloc(), &config).is_err());
-    config.recovery_threads = 1;
-    assert!(rt; write(rt.alloc(), &config).is_ok());
-    config.purge_rewrite_garbage_ratio = u64::MAX;
-    assert!(rt; write(rt.alloc(), &config).is_err());
-    Ok(())
+fn great_numbers_are_refused(rt: HostRuntime) {
+    assert!(rt; !is_written(rt.alloc(), usize::MAX, 600));
+    assert!(rt; is_written(rt.alloc(), 1, 600));
+    assert!(rt; !is_written(rt.alloc(), 1, u64::MAX));
 }

@@ -1,8 +1,9 @@
 //! Bytes as lines spell them, and read back.
 
+use crate::told::assert_right;
 use raft_inspect::{Lines, Misspelled, Word, read_digits, read_text};
+use raft_records::Fault;
 use std::alloc::{AllocError, Global};
-use std::test::Fail;
 
 /// Bytes, and how they are spelled: as text, in digits and as a value of JSON. Made by python's `repr`, `hex` and
 /// `json`; bytes that are no UTF-8 by hand.
@@ -70,7 +71,7 @@ fn is_read_back(alloc: Global, row: &Spelled) -> bool {
 }
 
 // The first row that is spelled or read otherwise.
-fn wrong_row(alloc: Global) -> Result<Option<usize>, AllocError> {
+fn wrong_row(alloc: Global) -> Result<Option<usize>, Fault> {
     for (place, row) in ROWS.iter().enumerate() {
         if !is_spelled(alloc, row)? || !is_read_back(alloc, row) {
             return Ok(Some(place));
@@ -80,27 +81,25 @@ fn wrong_row(alloc: Global) -> Result<Option<usize>, AllocError> {
 }
 
 #[test]
-fn bytes_are_read_back(rt: HostRuntime) -> Result<(), Fail> {
-    assert_eq!(rt; wrong_row(rt.alloc())?, None);
-    Ok(())
+fn bytes_are_read_back(rt: HostRuntime) {
+    assert_right(&rt, wrong_row(rt.alloc()));
 }
 
 // The first byte whose spelling isn't read back.
-fn wrong_byte(alloc: Global) -> Result<Option<u8>, AllocError> {
+fn wrong_byte(alloc: Global) -> Result<Option<usize>, Fault> {
     for byte in 0..=255u8 {
         let lines = line_of(alloc, &[byte], false, false)?;
         let text = lines.as_bytes().strip_suffix(b"\n").unwrap_or(&[]);
         if !is_read(&read_text(alloc, text), &[byte]) {
-            return Ok(Some(byte));
+            return Ok(Some(usize::from(byte)));
         }
     }
     Ok(None)
 }
 
 #[test]
-fn each_byte_is_read_back(rt: HostRuntime) -> Result<(), Fail> {
-    assert_eq!(rt; wrong_byte(rt.alloc())?, None);
-    Ok(())
+fn each_byte_is_read_back(rt: HostRuntime) {
+    assert_right(&rt, wrong_byte(rt.alloc()));
 }
 
 /// Texts that stand for no bytes, and digits that don't.
@@ -110,12 +109,12 @@ static DIGITS: [&[u8]; 3] = [b"1", b"123", b"0g"];
 
 fn misspelled(alloc: Global) -> usize {
     let mut count = 0usize;
-    for text in TEXTS {
+    for text in &TEXTS {
         if let Err(Misspelled::NoEscape) = read_text(alloc, text) {
             count = count.saturating_add(1);
         }
     }
-    for digits in DIGITS {
+    for digits in &DIGITS {
         if let Err(Misspelled::NoDigits) = read_digits(alloc, digits) {
             count = count.saturating_add(1);
         }
@@ -124,7 +123,6 @@ fn misspelled(alloc: Global) -> usize {
 }
 
 #[test]
-fn other_texts_are_refused(rt: HostRuntime) -> Result<(), Fail> {
+fn other_texts_are_refused(rt: HostRuntime) {
     assert_eq!(rt; misspelled(rt.alloc()), 8);
-    Ok(())
 }

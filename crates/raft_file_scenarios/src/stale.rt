@@ -1,11 +1,12 @@
 //! A file that is used again, whose first bytes were written over: what stands behind its records is told from damage.
 
+use crate::told::assert_rows;
 use raft_config::RecoveryMode;
 use raft_inspect::{Lines, Outlook, QueueFiles, add_queue, inspect};
 use raft_memory::MemoryFileSystem;
 use raft_records::{Fault, LogQueue};
+use raft_rows::Row;
 use std::alloc::Global;
-use std::test::Fail;
 
 /// Headers of versions 1 and 2.
 const V1: &[u8] =
@@ -134,10 +135,15 @@ fn is_told(alloc: Global, case: &Case) -> Result<bool, Fault> {
     )
 }
 
-#[test]
-fn stale_records_are_told_from_damage(rt: HostRuntime) -> Result<(), Fail> {
-    for (place, case) in CASES.iter().enumerate() {
-        assert!(rt; is_told(rt.alloc(), case)?, "case {place}");
+impl Row for Case {
+    type State = ();
+
+    fn holds(&self, alloc: Global, _: &mut ()) -> Result<bool, Fault> {
+        is_told(alloc, self)
     }
-    Ok(())
+}
+
+#[test]
+fn stale_records_are_told_from_damage(rt: HostRuntime) {
+    assert_rows(&rt, rt.alloc(), &mut (), &CASES);
 }

@@ -1,19 +1,27 @@
 //! Looks at a folder: what they read, and that the folder is byte for byte as before.
 
+use crate::in_folder::{InFolder, try_in_folder};
+use crate::reads::{place_in, stands_at, text_of, write_at};
 use raft_disk::{DiskFileSystem, FolderView};
-use raft_rows::temp_folder;
+use std::alloc::AllocError;
+use std::fs::{self, DirEntry};
+use std::io;
 use std::test::Fail;
-use std::{fs, io};
 
 const LOG: &[u8] = b"of a log";
+
+fn add_line(rt: &HostRuntime, entry: &DirEntry, lines: &mut Vec<String>) -> Result<(), Fail> {
+    let text = fs::read_to_string(rt, entry.path())?;
+    lines.push(format!(in rt.alloc(); "{}: {text}", entry.file_name())?)?;
+    Ok(())
+}
 
 // The names of the folder with the bytes and the time of each file, as a text.
 fn standing(rt: &HostRuntime, folder: &str) -> Result<Vec<String>, Fail> {
     let mut lines = Vec::new(rt.alloc());
     for entry in fs::read_dir(rt, folder)? {
         let entry = entry?;
-        let text = fs::read_to_string(rt, entry.path())?;
-        lines.push(format!(in rt.alloc(); "{}: {text}", entry.file_name())?)?;
+        add_line(rt, &entry, &mut lines)?;
     }
     lines.sort()?;
     Ok(lines)
@@ -47,10 +55,8 @@ fn sees_the_log(rt: HostRuntime, folder: &str, in_use: bool) -> Result<bool, Fai
 }
 
 fn make(rt: &HostRuntime, folder: &str) -> Result<(), Fail> {
-    for name in ["log", "other"] {
-        let place = format!(in rt.alloc(); "{folder}/{name}")?;
-        fs::write(rt, place.as_str(), LOG)?;
-    }
+    write_at(rt, folder, "log", LOG)?;
+    write_at(rt, folder, "other", LOG)?;
     Ok(())
 }
 
@@ -62,48 +68,64 @@ fn looks(rt: HostRuntime, folder: &str) -> Result<[bool; 3], Fail> {
     let second = sees_the_log(rt, folder, false)?;
     set_writable(&rt, folder, true)?;
     let writer = DiskFileSystem::open(rt, folder)?;
-    let third = sees_the_log(rt, folder, true)?;
+    let third = sees_the_log(rt, folder, true);
     drop(writer);
-    Ok([first, second, third])
+    Ok([first, second, third?])
+}
+
+#[derive(Drop)]
+struct AFolder;
+
+impl InFolder for AFolder {
+    fn holds(&self, rt: HostRuntime, folder: &str) -> Result<bool, Fail> {
+        Ok(looks(rt, folder)? == [true, true, true])
+    }
 }
 
 #[test]
 fn looks_change_nothing(rt: HostRuntime) -> Result<(), Fail> {
-    let folder = temp_folder(&rt, "looks")?;
-    let seen = looks(rt, folder.as_str());
-    let removed = fs::remove_dir_all(&rt, folder.as_str());
-    assert_eq!(rt; seen?, [true, true, true]);
-    Ok(removed?)
+    try_in_folder(rt, "looks", 0, &AFolder)
 }
 
 // What a look at a place says, which is nothing where it doesn't fail.
-fn fault_of(rt: HostRuntime, place: &str) -> Result<String, Fail> {
-    match FolderView::open(rt, place) {
-        Ok(_) => Ok(String::new(rt.alloc())),
-        Err(fault) => Ok(format!(in rt.alloc(); "{fault}")?),
-    }
+fn fault_of(rt: HostRuntime, place: &str) -> Result<String, AllocError> {
+    text_of(&rt, FolderView::open(rt, place))
+}
+
+const IN_PLACE: &str = "a file stands in the folder's place";
+
+const NOWHERE: &str = "No such file or directory";
+
+// Whether a look at a place says this, or begins so.
+fn says(rt: HostRuntime, place: &str, text: &str, is_all: bool) -> Result<bool, Fail> {
+    let fault = fault_of(rt, place)?;
+    let wanted = format!(in rt.alloc(); "{place}: {text}")?;
+    Ok(fault.starts_with(wanted.as_str()) && (!is_all || fault.len() == wanted.len()))
 }
 
 // Whether looks at a file, at nothing and at an empty name say so, and make nothing.
 fn fail_so(rt: HostRuntime, folder: &str) -> Result<[bool; 4], Fail> {
     make(&rt, folder)?;
-    let file = format!(in rt.alloc(); "{folder}/log")?;
-    let missing = format!(in rt.alloc(); "{folder}/missing")?;
-    let in_place = format!(in rt.alloc(); "{file}: a file stands in the folder's place")?;
-    let nowhere = format!(in rt.alloc(); "{missing}: No such file or directory")?;
+    let file = place_in(&rt, folder, "log")?;
+    let missing = place_in(&rt, folder, "missing")?;
     Ok([
-        fault_of(rt, file.as_str())? == in_place,
-        fault_of(rt, missing.as_str())?.starts_with(nowhere.as_str()),
+        says(rt, file.as_str(), IN_PLACE, true)?,
+        says(rt, missing.as_str(), NOWHERE, false)?,
         fault_of(rt, "")?.as_str() == "a folder has no empty name",
-        !fs::exists(&rt, missing.as_str())?,
+        !stands_at(&rt, folder, "missing")?,
     ])
+}
+
+#[derive(Drop)]
+struct NoFolder;
+
+impl InFolder for NoFolder {
+    fn holds(&self, rt: HostRuntime, folder: &str) -> Result<bool, Fail> {
+        Ok(fail_so(rt, folder)? == [true, true, true, true])
+    }
 }
 
 #[test]
 fn looks_at_no_folder_fail(rt: HostRuntime) -> Result<(), Fail> {
-    let folder = temp_folder(&rt, "no-looks")?;
-    let failed = fail_so(rt, folder.as_str());
-    let removed = fs::remove_dir_all(&rt, folder.as_str());
-    assert_eq!(rt; failed?, [true, true, true, true]);
-    Ok(removed?)
+    try_in_folder(rt, "no-looks", 0, &NoFolder)
 }

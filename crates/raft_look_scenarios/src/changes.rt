@@ -3,13 +3,12 @@
 
 use crate::files::{
     CUT_BEFORE, FileParts, GAP, LEFT_OUT, NO_REWRITE, PUT, TORN, TORN_END, TORN_FRONT, TORN_MIDDLE,
-    WHOLE, make,
+    WHOLE, end, make,
 };
 use crate::standing::standing;
 use crate::words::words_of;
 use raft_command_line::parse;
 use raft_commands::change;
-use std::fs;
 use std::test::Fail;
 use std::thread::Threads;
 
@@ -108,14 +107,21 @@ fn keeps(rt: &HostRuntime, folder: &str, kept: &[FileParts]) -> Result<bool, Fai
             continue;
         }
         found = found.saturating_add(1);
-        let Some((_, parts)) = kept.iter().find(|(each, _)| name.as_str() == *each) else {
-            return Ok(false);
-        };
-        if !is_all(bytes, parts) {
+        if !is_kept(kept, name, bytes) {
             return Ok(false);
         }
     }
     Ok(found == kept.len())
+}
+
+// Whether these are the bytes of the file that has this name among those that keep something.
+fn is_kept(kept: &[FileParts], name: &str, bytes: &[u8]) -> bool {
+    for (each, parts) in kept {
+        if name == *each {
+            return is_all(bytes, parts);
+        }
+    }
+    false
 }
 
 // Whether bytes are these parts, one behind the other.
@@ -132,10 +138,17 @@ fn is_all(bytes: &[u8], parts: &[&[u8]]) -> bool {
 
 // The lock's file isn't one of those that stood before.
 fn stays(before: &[(String, Vec<u8>)], after: &[(String, Vec<u8>)]) -> bool {
-    before.iter().all(|file| after.contains(file))
-        && after
-            .iter()
-            .all(|file| before.contains(file) || file.0.as_str() == "LOCK")
+    for file in before {
+        if !after.contains(file) {
+            return false;
+        }
+    }
+    for file in after {
+        if !before.contains(file) && file.0.as_str() != "LOCK" {
+            return false;
+        }
+    }
+    true
 }
 
 fn holds<R: Threads + Sync>(
@@ -157,9 +170,7 @@ fn changes_keep_what_an_opening_loses(rt: HostRuntime) -> Result<(), Fail> {
     for (place, case) in CASES.iter().enumerate() {
         let folder = make(&rt, "change", case.0)?;
         let held = holds(rt, &rt, folder.as_str(), case);
-        let removed = fs::remove_dir_all(&rt, folder.as_str());
-        assert!(rt; held?, "{place}");
-        removed?;
+        end(&rt, folder.as_str(), held, "change", place)?;
     }
     Ok(())
 }

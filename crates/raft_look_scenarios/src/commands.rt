@@ -1,11 +1,10 @@
 //! Each command that looks, at a whole log and at one whose first file is broken, which it leaves.
 
-use crate::files::{FileParts, OF_RAFTCTL, TORN_FRONT, make};
+use crate::files::{FileParts, OF_RAFTCTL, TORN_FRONT, end, make};
 use crate::standing::{set_writable, standing};
 use crate::words::words_of;
 use raft_command_line::{Request, Verb, parse};
 use raft_commands::look;
-use std::fs;
 use std::test::Fail;
 use std::thread::Threads;
 
@@ -72,33 +71,26 @@ fn always_ends_so<R: Threads + Sync>(
     Ok(first && second)
 }
 
-// Whether the command ends so at a folder with these files.
-fn ends_so_at<R: Threads + Sync>(
+// Fails unless the command ends so at a folder with these files, which have this name.
+fn try_at<R: Threads + Sync>(
     rt: HostRuntime,
     threads: &R,
-    files: &'static [FileParts],
+    log: (&'static str, &'static [FileParts]),
     command: &'static [&'static str],
     wanted: Option<u8>,
-) -> Result<bool, Fail> {
+    place: usize,
+) -> Result<(), Fail> {
+    let (name, files) = log;
     let folder = make(&rt, "command", files)?;
     let ended = always_ends_so(rt, threads, folder.as_str(), command, wanted);
-    let removed = fs::remove_dir_all(&rt, folder.as_str());
-    let is_so = ended?;
-    removed?;
-    Ok(is_so)
+    end(&rt, folder.as_str(), ended, name, place)
 }
 
 #[test]
 fn commands_that_look_leave_the_folder(rt: HostRuntime) -> Result<(), Fail> {
     for (place, Command(words, whole, broken)) in COMMANDS.iter().enumerate() {
-        assert!(rt;
-            ends_so_at(rt, &rt, OF_RAFTCTL, words, *whole)?,
-            "whole: {place}"
-        );
-        assert!(rt;
-            ends_so_at(rt, &rt, TORN_FRONT, words, *broken)?,
-            "broken: {place}"
-        );
+        try_at(rt, &rt, ("whole", OF_RAFTCTL), words, *whole, place)?;
+        try_at(rt, &rt, ("broken", TORN_FRONT), words, *broken, place)?;
     }
     Ok(())
 }

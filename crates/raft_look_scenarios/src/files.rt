@@ -1,6 +1,7 @@
 //! The files of a folder, by their parts. Their bytes were made by another program.
 
 use raft_rows::temp_folder;
+use std::test::Fail;
 use std::{fs, io};
 
 /// A header of version 1.
@@ -79,6 +80,24 @@ pub(crate) const CUT_BEFORE: &[FileParts] = &[
     ("0000000000000001.raftlog.cut-89", &[PUT]),
 ];
 
+fn make_below(rt: &HostRuntime, folder: &str, file: &str) -> io::Result<()> {
+    match file.rsplit_once('/') {
+        Some((below, _)) => {
+            fs::create_dir(rt, format!(in rt.alloc(); "{folder}/{below}")?.as_str())
+        }
+        None => Ok(()),
+    }
+}
+
+fn make_file(rt: &HostRuntime, folder: &str, file: &str, parts: &[&[u8]]) -> io::Result<()> {
+    let mut bytes = Vec::new(rt.alloc());
+    for part in parts {
+        bytes.extend_from_slice(part)?;
+    }
+    let place = format!(in rt.alloc(); "{folder}/{file}")?;
+    fs::write(rt, place.as_str(), &bytes)
+}
+
 /// Makes a folder for one test with these files, of which one may stand in a folder below.
 pub(crate) fn make(
     rt: &HostRuntime,
@@ -87,15 +106,26 @@ pub(crate) fn make(
 ) -> io::Result<String> {
     let folder = temp_folder(rt, name)?;
     for (file, parts) in files {
-        if let Some((below, _)) = file.rsplit_once('/') {
-            fs::create_dir(rt, format!(in rt.alloc(); "{folder}/{below}")?.as_str())?;
-        }
-        let place = format!(in rt.alloc(); "{folder}/{file}")?;
-        let mut bytes = Vec::new(rt.alloc());
-        for part in *parts {
-            bytes.extend_from_slice(part)?;
-        }
-        fs::write(rt, place.as_str(), &bytes)?;
+        make_below(rt, folder.as_str(), file)?;
+        make_file(rt, folder.as_str(), file, parts)?;
     }
     Ok(folder)
+}
+
+/// Removes the folder, and tells the name and the place of a row that came to something else.
+pub(crate) fn end(
+    rt: &HostRuntime,
+    folder: &str,
+    held: Result<bool, Fail>,
+    name: &str,
+    place: usize,
+) -> Result<(), Fail> {
+    let removed = fs::remove_dir_all(rt, folder);
+    let is_so = held?;
+    removed?;
+    if is_so {
+        Ok(())
+    } else {
+        Err(Fail::new(format_args!("{name} {place}")))
+    }
 }

@@ -1,6 +1,6 @@
 //! Each look at a folder, with what it prints and its status, also at one that may not be written.
 
-use crate::files::{FileParts, GAP, LEFT_OUT, TORN_END, TORN_FRONT, WHOLE, make};
+use crate::files::{FileParts, GAP, LEFT_OUT, TORN_END, TORN_FRONT, WHOLE, end, make};
 use crate::standing::{set_writable, standing};
 use anyhow::anyhow;
 use raft_command_line::{Changing, Options};
@@ -8,7 +8,7 @@ use raft_config::RecoveryMode;
 use raft_console::{Output, Progress, Status};
 use raft_inspect::{Filter, ItemKind};
 use raft_looks::{Folder, check, dump};
-use std::fs;
+use std::alloc::Global;
 use std::test::Fail;
 
 #[derive(Clone, Copy)]
@@ -200,19 +200,29 @@ const OPTIONS: Options<'static> = Options {
     changing: Changing::USUAL,
 };
 
+// How a look ends; none where a file is gone.
+fn status_of(
+    alloc: Global,
+    folder: &Folder,
+    look: Look,
+    progress: &mut Progress,
+    out: &mut Output,
+) -> anyhow::Result<Option<Status>> {
+    match look {
+        Look::Check => check(alloc, folder, &OPTIONS, progress, out),
+        Look::Dump(name, filter) => Ok(Some(dump(alloc, folder, name, filter, progress, out)?)),
+        Look::Image => match folder.image(progress)? {
+            Some(_) => Ok(Some(Status::Done)),
+            None => Ok(None),
+        },
+    }
+}
+
 // The status of a look.
 fn looked(rt: HostRuntime, folder: &str, look: Look, out: &mut Output) -> anyhow::Result<u8> {
     let mut progress = Progress::new(rt, true)?;
     let folder = Folder::open(rt, folder, &OPTIONS)?;
-    let status = match look {
-        Look::Check => check(rt.alloc(), &folder, &OPTIONS, &mut progress, out)?,
-        Look::Dump(name, filter) => {
-            let status = dump(rt.alloc(), &folder, name, filter, &mut progress, out)?;
-            Some(status)
-        }
-        Look::Image => folder.image(&mut progress)?.map(|_| Status::Done),
-    };
-    match status {
+    match status_of(rt.alloc(), &folder, look, &mut progress, out)? {
         Some(status) => Ok(status.code()),
         None => Err(anyhow!("a file is gone")),
     }
@@ -242,12 +252,10 @@ fn holds(rt: HostRuntime, folder: &str, case: &Case) -> Result<bool, Fail> {
 
 #[test]
 fn looks_tell_what_stands_there_and_leave_it(rt: HostRuntime) -> Result<(), Fail> {
-    for case in &CASES {
+    for (place, case) in CASES.iter().enumerate() {
         let folder = make(&rt, case.name, case.files)?;
         let held = holds(rt, folder.as_str(), case);
-        let removed = fs::remove_dir_all(&rt, folder.as_str());
-        assert!(rt; held?, "{}", case.name);
-        removed?;
+        end(&rt, folder.as_str(), held, case.name, place)?;
     }
     Ok(())
 }

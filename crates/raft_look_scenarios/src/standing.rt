@@ -1,18 +1,28 @@
 //! What stands in a folder.
 
+use std::fs::{self, DirEntry};
+use std::io;
 use std::test::Fail;
-use std::{fs, io};
+
+fn add_file(
+    rt: &HostRuntime,
+    entry: &DirEntry,
+    found: &mut Vec<(String, Vec<u8>)>,
+) -> Result<(), Fail> {
+    if !fs::metadata(rt, entry.path())?.is_file() {
+        return Ok(());
+    }
+    let name = String::from_str(rt.alloc(), entry.file_name())?;
+    found.push((name, fs::read(rt, entry.path())?))?;
+    Ok(())
+}
 
 /// The names of the files in the folder, each with its bytes.
 pub(crate) fn standing(rt: &HostRuntime, folder: &str) -> Result<Vec<(String, Vec<u8>)>, Fail> {
     let mut found = Vec::new(rt.alloc());
     for entry in fs::read_dir(rt, folder)? {
         let entry = entry?;
-        if !fs::metadata(rt, entry.path())?.is_file() {
-            continue;
-        }
-        let name = String::from_str(rt.alloc(), entry.file_name())?;
-        found.push((name, fs::read(rt, entry.path())?))?;
+        add_file(rt, &entry, &mut found)?;
     }
     found.sort()?;
     Ok(found)

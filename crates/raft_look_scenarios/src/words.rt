@@ -2,6 +2,11 @@
 
 use std::alloc::{AllocError, Global};
 
+fn add(alloc: Global, words: &mut Vec<String>, word: &str) -> Result<(), AllocError> {
+    words.push(String::from_str(alloc, word)?)?;
+    Ok(())
+}
+
 /// The program's name, a folder, and the words behind it; and that all is quiet.
 pub(crate) fn words_of(
     alloc: Global,
@@ -9,12 +14,11 @@ pub(crate) fn words_of(
     command: &'static [&'static str],
 ) -> Result<Vec<String>, AllocError> {
     let mut words = Vec::new(alloc);
-    for word in ["raftctl", folder] {
-        words.push(String::from_str(alloc, word)?)?;
-    }
+    add(alloc, &mut words, "raftctl")?;
+    add(alloc, &mut words, folder)?;
     for word in command {
-        words.push(String::from_str(alloc, word)?)?;
+        add(alloc, &mut words, word)?;
     }
-    words.push(String::from_str(alloc, "--quiet")?)?;
+    add(alloc, &mut words, "--quiet")?;
     Ok(words)
 }

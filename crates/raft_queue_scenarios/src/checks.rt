@@ -1,12 +1,13 @@
 //! The holes in the log files of a folder.
 
 use crate::stored::HEADER;
+use crate::told::{assert_at, assert_row};
 use raft_consistency::{consistency_check, consistency_check_with_file_system};
 use raft_env::FileSystem;
 use raft_memory::MemoryFileSystem;
+use raft_records::Fault;
 use raft_rows::store_in;
 use std::alloc::Global;
-use std::test::Fail;
 
 // Records of entries without bytes, by Python's struct and zlib.
 
@@ -103,47 +104,58 @@ static CASES: [Case; 7] = [
     },
 ];
 
+/// Puts these files into the folder `data`.
+pub(crate) fn store_all<F: FileSystem>(
+    alloc: Global,
+    fs: &mut F,
+    stored: &[Stored],
+) -> Result<(), Fault> {
+    for (path, parts) in stored {
+        if let Err(fault) = store_in(fs, "data", path, parts) {
+            return Err(fault.with_path(alloc, path));
+        }
+    }
+    Ok(())
+}
+
+// Whether a check came to what is wanted.
+fn is_wanted<F: Drop>(
+    found: Result<(Vec<(u64, u64)>, F), (Fault, F)>,
+    wanted: &Result<&'static [(u64, u64)], u8>,
+) -> bool {
+    match (found, wanted) {
+        (Ok((holes, _files)), Ok(wanted)) => holes.as_slice() == *wanted,
+        (Err((fault, _files)), Err(code)) => fault.code() == *code,
+        _ => false,
+    }
+}
+
 fn is_as_said<F: FileSystem + Drop>(
     alloc: Global,
     mut files: F,
     case: &Case,
-) -> Result<bool, Fail> {
-    for (path, parts) in case.stored {
-        store_in(&mut files, "data", path, parts)?;
-    }
+) -> Result<bool, Fault> {
+    store_all(alloc, &mut files, case.stored)?;
     let found = consistency_check_with_file_system(alloc, case.path, files);
-    Ok(match (found, &case.wanted) {
-        (Ok((holes, _files)), Ok(wanted)) => holes.as_slice() == *wanted,
-        (Err((fault, _files)), Err(code)) => fault.code() == *code,
-        _ => false,
-    })
+    Ok(is_wanted(found, &case.wanted))
 }
 
-// The same over files in memory.
-fn is_found_in_memory(alloc: Global, case: &Case) -> Result<bool, Fail> {
+fn is_found(alloc: Global, case: &Case) -> Result<bool, Fault> {
+    is_as_said(alloc, MemoryFileSystem::new(alloc), case)
+}
+
+// The same by the check of files in memory.
+fn is_found_in_memory(alloc: Global, case: &Case) -> Result<bool, Fault> {
     let mut files = MemoryFileSystem::new(alloc);
-    for (path, parts) in case.stored {
-        store_in(&mut files, "data", path, parts)?;
-    }
-    Ok(
-        match (consistency_check(alloc, case.path, files), &case.wanted) {
-            (Ok((holes, _files)), Ok(wanted)) => holes.as_slice() == *wanted,
-            (Err((fault, _files)), Err(code)) => fault.code() == *code,
-            _ => false,
-        },
-    )
+    store_all(alloc, &mut files, case.stored)?;
+    let found = consistency_check(alloc, case.path, files);
+    Ok(is_wanted(found, &case.wanted))
 }
 
 #[test]
-fn holes_are_found_in_folders(rt: HostRuntime) -> Result<(), Fail> {
-    for case in &CASES {
-        let files = MemoryFileSystem::new(rt.alloc());
-        assert!(rt; is_as_said(rt.alloc(), files, case)?, "{}", case.name);
-        assert!(rt;
-            is_found_in_memory(rt.alloc(), case)?,
-            "{}, in memory",
-            case.name
-        );
+fn holes_are_found_in_folders(rt: HostRuntime) {
+    for (place, case) in CASES.iter().enumerate() {
+        assert_row(&rt, is_found(rt.alloc(), case), case.name);
+        assert_at(&rt, is_found_in_memory(rt.alloc(), case), case.name, place);
     }
-    Ok(())
 }

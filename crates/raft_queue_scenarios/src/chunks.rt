@@ -1,12 +1,13 @@
 //! Batches of both queues, those of the Append queue in chunks.
 
 use crate::steps::{GROUP, KEY, Step, items_of};
+use crate::told::{assert_at, assert_row};
 use raft_builder::MergingMachine;
 use raft_opening::ReplayMachine;
 use raft_records::{Fault, FileId, LogQueue};
 use raft_replay::{InOrder, Read, RecoveryMachine, SideBySide, read_of};
 use std::alloc::Global;
-use std::test::Fail;
+use std::thread::Threads;
 
 /// Batches of the Rewrite queue and two chunks of the Append queue's, the first and the last index that
 /// are read of them, and whether the key is.
@@ -99,24 +100,22 @@ fn replay(
     Ok(())
 }
 
-/// The machines of both queues, where the chunks are given to a machine each, or to one.
-fn machines(
-    alloc: Global,
-    case: &Case,
-    apart: bool,
-) -> Result<(RecoveryMachine, RecoveryMachine), Fault> {
-    let mut rewritten = RecoveryMachine::new(alloc);
-    replay(alloc, &mut rewritten, LogQueue::Rewrite, case.rewritten)?;
-    let mut appended = RecoveryMachine::new(alloc);
-    replay(alloc, &mut appended, LogQueue::Append, case.older)?;
+fn machine_of(alloc: Global, queue: LogQueue, steps: &[Step]) -> Result<RecoveryMachine, Fault> {
+    let mut machine = RecoveryMachine::new(alloc);
+    replay(alloc, &mut machine, queue, steps)?;
+    Ok(machine)
+}
+
+/// The machine of the Append queue, where the chunks are given to a machine each, or to one.
+fn appended(alloc: Global, case: &Case, apart: bool) -> Result<RecoveryMachine, Fault> {
+    let mut appended = machine_of(alloc, LogQueue::Append, case.older)?;
     if apart {
-        let mut newer = RecoveryMachine::new(alloc);
-        replay(alloc, &mut newer, LogQueue::Append, case.newer)?;
+        let newer = machine_of(alloc, LogQueue::Append, case.newer)?;
         appended.merge(newer, LogQueue::Append)?;
     } else {
         replay(alloc, &mut appended, LogQueue::Append, case.newer)?;
     }
-    Ok((appended, rewritten))
+    Ok(appended)
 }
 
 fn is_as_said(case: &Case, read: &Read) -> bool {
@@ -128,26 +127,38 @@ fn is_as_said(case: &Case, read: &Read) -> bool {
     indexes == case.indexes && tables.get(GROUP, KEY).is_some() == case.has_key
 }
 
-#[test]
-fn chunks_are_read_as_one(rt: HostRuntime) -> Result<(), Fail> {
-    for case in &CASES {
-        for apart in [false, true] {
-            let (appended, rewritten) = machines(rt.alloc(), case, apart)?;
-            let read = read_of(&InOrder, appended, rewritten)?;
-            assert!(rt; is_as_said(case, &read), "{}", case.name);
-        }
-    }
-    Ok(())
+fn is_read(alloc: Global, case: &Case, apart: bool) -> Result<bool, Fault> {
+    let rewritten = machine_of(alloc, LogQueue::Rewrite, case.rewritten)?;
+    let read = read_of(&InOrder, appended(alloc, case, apart)?, rewritten)?;
+    Ok(is_as_said(case, &read))
 }
 
 #[test]
-fn threads_join_chunks_as_one_does(rt: HostRuntime) -> Result<(), Fail> {
+fn chunks_are_read_as_one(rt: HostRuntime) {
     for case in &CASES {
-        for threads in [0, 1, 4] {
-            let (appended, rewritten) = machines(rt.alloc(), case, true)?;
-            let read = read_of(&SideBySide { rt: &rt, threads }, appended, rewritten)?;
-            assert!(rt; is_as_said(case, &read), "{}, {threads} threads", case.name);
+        assert_row(&rt, is_read(rt.alloc(), case, false), case.name);
+        assert_row(&rt, is_read(rt.alloc(), case, true), case.name);
+    }
+}
+
+fn is_joined<R: Threads + Sync>(
+    rt: &R,
+    alloc: Global,
+    case: &Case,
+    threads: usize,
+) -> Result<bool, Fault> {
+    let rewritten = machine_of(alloc, LogQueue::Rewrite, case.rewritten)?;
+    let appended = appended(alloc, case, true)?;
+    let read = read_of(&SideBySide { rt, threads }, appended, rewritten)?;
+    Ok(is_as_said(case, &read))
+}
+
+#[test]
+fn threads_join_chunks_as_one_does(rt: HostRuntime) {
+    for case in &CASES {
+        for threads in &[0, 1, 4] {
+            let joined = is_joined(&rt, rt.alloc(), case, *threads);
+            assert_at(&rt, joined, case.name, *threads);
         }
     }
-    Ok(())
 }

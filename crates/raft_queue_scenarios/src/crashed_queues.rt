@@ -4,54 +4,25 @@ ghost use Rattle.std.specs.Prelude.{IfOk, OnOk};
 ghost use Rattle.raft_queues.specs.Dual.{StandSideBySide};
 
 use crate::crashed_rows::{Case, Left, ONE_EACH, Opening, Stage, Step, cases, openings};
+use crate::failing::Failing;
 use crate::folders::begun;
+use crate::keys::Keys;
+use crate::told::assert_row;
+use crate::two_queues::{code_of, finished};
 use LogQueue::{Append, Rewrite};
 use raft_builder::{DefaultMachineFactory, DualPipesBuilder};
 use raft_env::{FileSystem, IoKind};
 use raft_memory::{Choice, MemoryFileSystem};
-use raft_opening::ReplayMachine;
 use raft_pipes::{AppendFault, RotationFault};
 use raft_queues::DualPipes;
-use raft_records::{Fault, FileId, Fresh, KeyValue, LogBatch, LogItem, LogItemContent, LogQueue};
+use raft_records::{Fault, Fresh, LogBatch, LogQueue};
 use std::alloc::Global;
-use std::test::Fail;
 
 /// A file with so many bytes is full.
 const TARGET: usize = 1024;
 
 /// No case has more files.
 const FILES: usize = 5;
-
-/// Takes the keys that batches put, each with the number of its file.
-#[derive(Drop)]
-struct Keys {
-    found: Vec<(u64, u8)>,
-}
-
-impl ReplayMachine for Keys {
-    ghost stands_for = { λ queue blocks earlier machine batches. Unit {0} };
-
-    fn replay(&mut self, items: &mut Vec<LogItem>, file: FileId) -> Result<(), Fault> {
-        for item in items.iter() {
-            if let LogItemContent::Kv(KeyValue::Put { key, value: _ }) = &item.content {
-                for byte in key {
-                    self.found.push((file.seq, *byte))?;
-                }
-            }
-        }
-        Ok(())
-    }
-}
-
-impl Fresh for Keys {
-    ghost is_fresh = { λ keys. Unit {0} };
-
-    fn fresh(alloc: Global) -> Keys {
-        Keys {
-            found: Vec::new(alloc),
-        }
-    }
-}
 
 // The keys of the Append queue, and those of the Rewrite queue.
 fn recover<F: FileSystem>(
@@ -66,15 +37,12 @@ fn recover<F: FileSystem>(
 fn opened<F: FileSystem + Drop>(
     alloc: Global,
     fs: F,
-    append: &mut Keys,
-    rewrite: &mut Keys,
+    keys: &mut (Keys, Keys),
 ) -> Result<(DualPipes<F>, F), Fault>
     ensures stands { IfOk result (λ done. StandSideBySide done.0 (F.directory done.1)) }
 {
     let mut builder = begun(alloc, fs)?;
-    let (appended, rewritten) = recover(alloc, &mut builder)?;
-    *append = appended;
-    *rewrite = rewritten;
+    *keys = recover(alloc, &mut builder)?;
     match builder.finish() {
         Ok((pipes, fs)) => Ok((pipes, fs)),
         Err((fault, _fs)) => Err(fault),
@@ -151,13 +119,20 @@ fn take_each<F: FileSystem>(
     Ok(())
 }
 
+fn no_keys(alloc: Global) -> (Keys, Keys) {
+    (Keys::fresh(alloc), Keys::fresh(alloc))
+}
+
 // The files once the steps were taken, of which no pipe was closed.
 fn written<F: FileSystem + Drop>(alloc: Global, fs: F, steps: &[Step]) -> Result<F, Fault> {
-    let mut append = Keys::fresh(alloc);
-    let mut rewrite = Keys::fresh(alloc);
-    let (mut pipes, mut fs) = opened(alloc, fs, &mut append, &mut rewrite)?;
-    take_each(alloc, &mut fs, &mut pipes, steps)?;
-    Ok(fs)
+    let mut keys = no_keys(alloc);
+    let (mut pipes, mut fs) = opened(alloc, fs, &mut keys)?;
+    let taken = take_each(alloc, &mut fs, &mut pipes, steps);
+    drop(pipes);
+    match taken {
+        Ok(()) => Ok(fs),
+        Err(fault) => Err(fault),
+    }
 }
 
 // The files after an opening, if it reads these keys.
@@ -167,9 +142,10 @@ fn reads<F: FileSystem + Drop>(
     in_append: &[(u64, u8)],
     in_rewrite: &[(u64, u8)],
 ) -> Result<Option<F>, Fault> {
-    let mut append = Keys::fresh(alloc);
-    let mut rewrite = Keys::fresh(alloc);
-    let (_pipes, fs) = opened(alloc, fs, &mut append, &mut rewrite)?;
+    let mut keys = no_keys(alloc);
+    let (pipes, fs) = opened(alloc, fs, &mut keys)?;
+    drop(pipes);
+    let (append, rewrite) = &keys;
     let are_same = append.found.as_slice() == in_append && rewrite.found.as_slice() == in_rewrite;
     Ok(are_same.then_some(fs))
 }
@@ -226,14 +202,6 @@ fn all_hold<F: FileSystem>(
     Ok(are_right)
 }
 
-// The files after the opening, and the code with which it isn't finished.
-fn finished<F: FileSystem + Drop>(builder: DualPipesBuilder<F>) -> (Option<u8>, F) {
-    match builder.finish() {
-        Ok((_pipes, fs)) => (None, fs),
-        Err((fault, fs)) => (Some(fault.code()), fs),
-    }
-}
-
 // The files after the stages, if these and the end come to what they say.
 fn staged<F: FileSystem + Drop>(
     alloc: Global,
@@ -241,16 +209,22 @@ fn staged<F: FileSystem + Drop>(
     opening: &Opening,
 ) -> Result<Option<F>, Fault> {
     let mut builder = begun(alloc, fs)?;
-    let are_right = all_hold(alloc, &mut builder, opening.stages)?;
-    let (code, fs) = finished(builder);
-    if are_right && code == opening.finished {
+    let held = all_hold(alloc, &mut builder, opening.stages);
+    let (ended, fs) = finished(builder);
+    if held? && code_of(ended) == opening.finished {
         Ok(Some(fs))
     } else {
         Ok(None)
     }
 }
 
-fn crashed(alloc: Global, fs: &MemoryFileSystem, left: &Left) -> Result<MemoryFileSystem, Fault> {
+// The files after a crash and an opening, if it reads the keys of the case.
+fn reads_after<F: Failing>(
+    alloc: Global,
+    fs: &F,
+    left: &Left,
+    case: &Case,
+) -> Result<Option<F>, Fault> {
     let mut choices = Vec::new(alloc);
     for _ in 0..FILES {
         choices.push(match left {
@@ -259,25 +233,28 @@ fn crashed(alloc: Global, fs: &MemoryFileSystem, left: &Left) -> Result<MemoryFi
             Left::Torn(kept, fill) => Choice::Torn(*kept, *fill),
         })?;
     }
-    fs.crash(&choices)
+    let crashed = fs.crashed(&choices)?;
+    reads(alloc, crashed, case.append, case.rewrite)
 }
 
 // What was found stays: it is read once more after another crash.
-fn is_as_said(alloc: Global, case: &Case) -> Result<bool, Fail> {
-    let fs = written(alloc, MemoryFileSystem::new(alloc), case.steps)?;
-    let left = crashed(alloc, &fs, &case.left)?;
-    let Some(found) = reads(alloc, left, case.append, case.rewrite)? else {
-        return Ok(false);
-    };
-    let left = crashed(alloc, &found, &Left::Synced)?;
-    Ok(reads(alloc, left, case.append, case.rewrite)?.is_some())
+fn is_as_said<F: Failing>(alloc: Global, case: &Case) -> Result<bool, Fault> {
+    let fs = written(alloc, F::fresh(alloc), case.steps)?;
+    match reads_after(alloc, &fs, &case.left, case)? {
+        Some(found) => Ok(reads_after(alloc, &found, &Left::Synced, case)?.is_some()),
+        None => Ok(false),
+    }
+}
+
+fn is_said_in_memory(alloc: Global, case: &Case) -> Result<bool, Fault> {
+    is_as_said::<MemoryFileSystem>(alloc, case)
 }
 
 // Both queues are read afterwards as they were written.
-fn ends_as_said(alloc: Global, opening: &Opening) -> Result<bool, Fail> {
-    let mut fs = written(alloc, MemoryFileSystem::new(alloc), &ONE_EACH)?;
+fn ends_as_said<F: Failing>(alloc: Global, opening: &Opening) -> Result<bool, Fault> {
+    let mut fs = written(alloc, F::fresh(alloc), &ONE_EACH)?;
     if let Some((call, nth)) = opening.refused {
-        fs.refuse(call, nth, IoKind::NoSpace)?;
+        fs.fail(call, nth, IoKind::NoSpace)?;
     }
     let Some(left) = staged(alloc, fs, opening)? else {
         return Ok(false);
@@ -285,20 +262,22 @@ fn ends_as_said(alloc: Global, opening: &Opening) -> Result<bool, Fail> {
     Ok(reads(alloc, left, &[(1, b'a')], &[(1, b'b')])?.is_some())
 }
 
-#[test]
-fn crashed_queues_are_read_in_stages(rt: HostRuntime) -> Result<(), Fail> {
-    for cases in &cases() {
-        for case in *cases {
-            assert!(rt; is_as_said(rt.alloc(), case)?, "{}", case.name);
-        }
-    }
-    Ok(())
+fn ends_in_memory(alloc: Global, opening: &Opening) -> Result<bool, Fault> {
+    ends_as_said::<MemoryFileSystem>(alloc, opening)
 }
 
 #[test]
-fn an_opening_ends_once_all_is_read(rt: HostRuntime) -> Result<(), Fail> {
-    for opening in openings() {
-        assert!(rt; ends_as_said(rt.alloc(), opening)?, "{}", opening.name);
+fn crashed_queues_are_read_in_stages(rt: HostRuntime) {
+    for cases in &cases() {
+        for case in *cases {
+            assert_row(&rt, is_said_in_memory(rt.alloc(), case), case.name);
+        }
     }
-    Ok(())
+}
+
+#[test]
+fn an_opening_ends_once_all_is_read(rt: HostRuntime) {
+    for opening in openings() {
+        assert_row(&rt, ends_in_memory(rt.alloc(), opening), opening.name);
+    }
 }

@@ -1,12 +1,12 @@
 //! Chunks of many groups, joined by so many threads.
 
 use crate::steps::{KEY, entry};
+use crate::told::assert_at;
 use raft_builder::MergingMachine;
 use raft_opening::ReplayMachine;
 use raft_records::{Fault, FileId, KeyValue, LogItem, LogItemContent, LogQueue};
 use raft_replay::{Read, RecoveryMachine, SideBySide, read_of};
 use std::alloc::{AllocError, Global};
-use std::test::Fail;
 use std::thread::Threads;
 
 /// The groups of each chunk, from the first to the last. Each has entries with the indexes 1 to 3
@@ -36,15 +36,35 @@ fn items(alloc: Global, group: u64, chunk: u8) -> Result<Vec<LogItem>, AllocErro
     Ok(items)
 }
 
+fn fill(
+    alloc: Global,
+    machine: &mut RecoveryMachine,
+    chunk: u8,
+    groups: &(u64, u64),
+) -> Result<(), Fault> {
+    let file = FileId::new(LogQueue::Append, u64::from(chunk).saturating_add(1));
+    let (first, last) = groups;
+    for group in *first..last.saturating_add(1) {
+        machine.replay(&mut items(alloc, group, chunk)?, file)?;
+    }
+    Ok(())
+}
+
+fn add_chunk(
+    alloc: Global,
+    all: &mut RecoveryMachine,
+    chunk: u8,
+    groups: &(u64, u64),
+) -> Result<(), Fault> {
+    let mut machine = RecoveryMachine::new(alloc);
+    fill(alloc, &mut machine, chunk, groups)?;
+    all.merge(machine, LogQueue::Append)
+}
+
 fn read<R: Threads + Sync>(rt: &R, alloc: Global, threads: usize) -> Result<Read, Fault> {
     let mut all = RecoveryMachine::new(alloc);
-    for (chunk, (first, last)) in (0u8..3).zip(CHUNKS.iter()) {
-        let mut machine = RecoveryMachine::new(alloc);
-        for group in *first..last.saturating_add(1) {
-            let file = FileId::new(LogQueue::Append, u64::from(chunk).saturating_add(1));
-            machine.replay(&mut items(alloc, group, chunk)?, file)?;
-        }
-        all.merge(machine, LogQueue::Append)?;
+    for (chunk, groups) in (0u8..3).zip(CHUNKS.iter()) {
+        add_chunk(alloc, &mut all, chunk, groups)?;
     }
     read_of(
         &SideBySide { rt, threads },
@@ -69,14 +89,22 @@ fn is_as_said(read: &Read, group: u64) -> bool {
 
 fn are_as_said(read: &Read) -> Result<bool, AllocError> {
     let groups = read.tables.groups()?;
-    Ok(groups.len() == 60 && groups.iter().all(|group| is_as_said(read, *group)))
+    for group in &groups {
+        if !is_as_said(read, *group) {
+            return Ok(false);
+        }
+    }
+    Ok(groups.len() == 60)
+}
+
+fn joins_all<R: Threads + Sync>(rt: &R, alloc: Global, threads: usize) -> Result<bool, Fault> {
+    Ok(are_as_said(&read(rt, alloc, threads)?)?)
 }
 
 #[test]
-fn each_number_of_threads_joins_all_groups(rt: HostRuntime) -> Result<(), Fail> {
-    for threads in THREADS {
-        let read = read(&rt, rt.alloc(), threads)?;
-        assert!(rt; are_as_said(&read)?, "{threads} threads");
+fn each_number_of_threads_joins_all_groups(rt: HostRuntime) {
+    for threads in &THREADS {
+        let joined = joins_all(&rt, rt.alloc(), *threads);
+        assert_at(&rt, joined, "threads", *threads);
     }
-    Ok(())
 }

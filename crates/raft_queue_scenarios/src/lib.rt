@@ -11,9 +11,13 @@ mod crashed_queues;
 #[cfg(test)]
 mod crashed_rows;
 #[cfg(test)]
+mod failing;
+#[cfg(test)]
 mod folders;
 #[cfg(test)]
 mod groups;
+#[cfg(test)]
+mod keys;
 #[cfg(test)]
 mod laws;
 #[cfg(test)]
@@ -38,6 +42,8 @@ mod shares;
 mod steps;
 #[cfg(test)]
 mod stored;
+#[cfg(test)]
+mod told;
 #[cfg(test)]
 mod two_folders;
 #[cfg(test)]

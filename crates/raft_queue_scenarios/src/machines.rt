@@ -1,11 +1,11 @@
 //! The first hole in each group's entries, by one checker and by several that are merged.
 
 use crate::steps::entry;
+use crate::told::{assert_at, assert_row};
 use raft_builder::merge_in_order;
 use raft_consistency::ConsistencyChecker;
 use raft_records::{Fault, LogItem, LogItemContent, LogQueue};
 use std::alloc::{AllocError, Global};
-use std::test::Fail;
 
 /// A group, and the first and the last index of entries.
 type Entries = (u64, u64, u64);
@@ -98,10 +98,10 @@ fn holds_in_halves(
     older: &[Entries],
     newer: &[Entries],
     wanted: &[(u64, u64)],
-) -> Result<bool, AllocError> {
+) -> Result<bool, Fault> {
     let mut whole = checker(alloc, older)?;
     whole.join(checker(alloc, newer)?)?;
-    are_holes(alloc, whole, wanted)
+    Ok(are_holes(alloc, whole, wanted)?)
 }
 
 /// A machine for each of the entries, merged.
@@ -116,14 +116,13 @@ fn holds_apart(alloc: Global, case: &Case) -> Result<bool, Fault> {
 }
 
 #[test]
-fn first_hole_of_each_group(rt: HostRuntime) -> Result<(), Fail> {
+fn first_hole_of_each_group(rt: HostRuntime) {
     for case in &CASES {
         for cut in 0..case.entries.len() + 1 {
             let (older, newer) = case.entries.split_at(cut);
-            let holds = holds_in_halves(rt.alloc(), older, newer, case.wanted)?;
-            assert!(rt; holds, "{}, cut at {}", case.name, cut);
+            let holds = holds_in_halves(rt.alloc(), older, newer, case.wanted);
+            assert_at(&rt, holds, case.name, cut);
         }
-        assert!(rt; holds_apart(rt.alloc(), case)?, "{}, one by one", case.name);
+        assert_row(&rt, holds_apart(rt.alloc(), case), case.name);
     }
-    Ok(())
 }

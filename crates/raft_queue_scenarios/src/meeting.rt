@@ -1,6 +1,7 @@
 //! Two workers that wait for one another.
 
-use crate::stored::{scanned, store_both};
+use crate::stored::ready;
+use crate::told::assert_row;
 use raft_builder::{MergingMachine, RecoveryConfig};
 use raft_config::RecoveryMode;
 use raft_env::FileSystem;
@@ -10,7 +11,6 @@ use raft_records::{Factory, Fault, FileId, LogItem, LogQueue};
 use std::alloc::Global;
 use std::sync::Arc;
 use std::sync::atomic::{AtomicU64, Ordering};
-use std::test::Fail;
 use std::thread;
 use std::thread::Threads;
 
@@ -69,10 +69,9 @@ fn meet<R: Threads + Sync, F: FileSystem + Drop>(
     let factory = Meetings {
         begun: Arc::new(alloc, AtomicU64::new(0))?,
     };
-    let mut fs = fs;
-    store_both(alloc, &mut fs, 2, 0)?;
-    let mut builder = scanned(alloc, fs, 2)?;
+    let mut builder = ready(alloc, fs, (2, 0), 2)?;
     let met: Result<(Meeting, Meeting), Fault> = builder.recover(rt, &factory);
+    drop(builder);
     Ok(met.is_ok())
 }
 
@@ -85,9 +84,7 @@ fn meet_in_queue<R: Threads + Sync, F: FileSystem + Drop>(
     let factory = Meetings {
         begun: Arc::new(alloc, AtomicU64::new(0))?,
     };
-    let mut fs = fs;
-    store_both(alloc, &mut fs, 2, 0)?;
-    let mut builder = scanned(alloc, fs, 1)?;
+    let mut builder = ready(alloc, fs, (2, 0), 1)?;
     let recovery = RecoveryConfig {
         queue: LogQueue::Append,
         mode: RecoveryMode::TolerateAnyCorruption,
@@ -95,15 +92,22 @@ fn meet_in_queue<R: Threads + Sync, F: FileSystem + Drop>(
         read_block_size: 512,
     };
     let met: Result<Meeting, Fault> = builder.recover_queue(rt, recovery, &factory);
+    drop(builder);
     Ok(met.is_ok())
 }
 
+fn meet_in_memory<R: Threads + Sync>(rt: &R, alloc: Global) -> Result<bool, Fault> {
+    meet(rt, alloc, MemoryFileSystem::new(alloc))
+}
+
+fn meet_in_queue_in_memory<R: Threads + Sync>(rt: &R, alloc: Global) -> Result<bool, Fault> {
+    meet_in_queue(rt, alloc, MemoryFileSystem::new(alloc))
+}
+
 #[test]
-fn two_workers_meet(rt: HostRuntime) -> Result<(), Fail> {
-    let alloc = rt.alloc();
-    let met = meet(&rt, alloc, MemoryFileSystem::new(alloc))?;
-    assert!(rt; met, "each machine met the other one");
-    let met = meet_in_queue(&rt, alloc, MemoryFileSystem::new(alloc))?;
-    assert!(rt; met, "each machine of one queue met the other one");
-    Ok(())
+fn two_workers_meet(rt: HostRuntime) {
+    let met = meet_in_memory(&rt, rt.alloc());
+    assert_row(&rt, met, "the machines of both queues");
+    let met = meet_in_queue_in_memory(&rt, rt.alloc());
+    assert_row(&rt, met, "the machines of one queue");
 }

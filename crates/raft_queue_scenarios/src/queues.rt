@@ -2,14 +2,14 @@
 ghost use Rattle.std.specs.Prelude.{◌≡◌, IfOk, OnOk};
 ghost use Rattle.raft_pipes.specs.Pipe.{IsPipeOf};
 
-use crate::folders::{HEADER, have_lengths, settings, store};
+use crate::folders::{HEADER, are_all, settings, stand_alone, store};
+use crate::told::assert_row;
 use raft_env::FileSystem;
 use raft_memory::MemoryFileSystem;
 use raft_opening::{ReplayMachine, read_files, settle_or_begin};
 use raft_pipes::{AppendFault, LogFolders, NewPipe, RotationFault, SinglePipe};
 use raft_records::{Fault, FileBlockHandle, FileId, LogItem, LogQueue};
 use std::alloc::Global;
-use std::test::Fail;
 
 /// A file with so many bytes is full.
 const TARGET: usize = 1024;
@@ -173,7 +173,7 @@ fn read<F: FileSystem>(
 {
     let mut bytes = Vec::new(alloc);
     pipe.read_block_to(fs, Some(block), &mut bytes)?;
-    if bytes.iter().all(|byte| *byte == 7) {
+    if are_all(&bytes, 7) {
         Ok(Some(bytes.len()))
     } else {
         Ok(None)
@@ -242,23 +242,26 @@ fn first_wrong<F: FileSystem>(
     Ok(wrong)
 }
 
-fn is_as_said<F: FileSystem>(alloc: Global, fs: &mut F, case: &Case) -> Result<bool, Fail> {
+fn is_as_said<F: FileSystem>(alloc: Global, fs: &mut F, case: &Case) -> Result<bool, Fault> {
     if let Some(path) = case.found {
-        store(fs, path, &[HEADER])?;
+        store(alloc, fs, path, &[HEADER])?;
     }
     let mut pipe = opened(alloc, fs)?;
     if first_wrong(alloc, fs, &mut pipe, case.steps)?.is_some() {
         return Ok(false);
     }
     pipe.close(fs)?;
-    Ok(have_lengths(fs, case.files)?)
+    stand_alone(alloc, fs, case.files)
+}
+
+fn is_so_in_memory(alloc: Global, case: &Case) -> Result<bool, Fault> {
+    let mut fs = MemoryFileSystem::new(alloc);
+    is_as_said(alloc, &mut fs, case)
 }
 
 #[test]
-fn one_queue(rt: HostRuntime) -> Result<(), Fail> {
+fn one_queue(rt: HostRuntime) {
     for case in cases() {
-        let mut fs = MemoryFileSystem::new(rt.alloc());
-        assert!(rt; is_as_said(rt.alloc(), &mut fs, case)?, "{}", case.name);
+        assert_row(&rt, is_so_in_memory(rt.alloc(), case), case.name);
     }
-    Ok(())
 }

@@ -1,9 +1,10 @@
 //! What a newer chunk of batches does to what an older one left.
 
 use crate::steps::{GROUP, Step, items_of};
+use crate::told::assert_row;
+use raft_records::Fault;
 use raft_replay::Reaches;
 use std::alloc::{AllocError, Global};
-use std::test::Fail;
 
 /// Items of two chunks, whether the newer one replaces all older entries, and else which indexes
 /// it leaves alone of those up to 9.
@@ -57,13 +58,13 @@ fn leaves_as_said(newer: &Reaches, left: &[u64]) -> bool {
     let reach = newer.reach(GROUP);
     let mut as_said = true;
     for index in 1..10 {
-        as_said = reach.leaves(index) == left.iter().any(|one| *one == index) && as_said;
+        as_said = reach.leaves(index) == left.contains(&index) && as_said;
     }
     as_said
 }
 
 /// Whether the chunks do as the case says, and reach together what their items reach in order.
-fn is_as_said(alloc: Global, case: &Case) -> Result<bool, AllocError> {
+fn is_as_said(alloc: Global, case: &Case) -> Result<bool, Fault> {
     let mut older = Reaches::new(alloc);
     note(alloc, &mut older, case.older)?;
     let mut newer = Reaches::new(alloc);
@@ -78,9 +79,8 @@ fn is_as_said(alloc: Global, case: &Case) -> Result<bool, AllocError> {
 }
 
 #[test]
-fn newer_chunks_leave_what_they_say(rt: HostRuntime) -> Result<(), Fail> {
+fn newer_chunks_leave_what_they_say(rt: HostRuntime) {
     for case in &CASES {
-        assert!(rt; is_as_said(rt.alloc(), case)?, "{}", case.name);
+        assert_row(&rt, is_as_said(rt.alloc(), case), case.name);
     }
-    Ok(())
 }

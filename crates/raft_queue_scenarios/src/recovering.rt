@@ -1,54 +1,17 @@
 //! Both queues, read by so many workers.
 
-use crate::stored::{scanned, store_both};
-use raft_builder::{DefaultMachineFactory, MergingMachine, RecoveryConfig};
+use crate::failing::Failing;
+use crate::keys::Keys;
+use crate::stored::{ready, scanned, store_both};
+use crate::told::assert_at;
+use crate::two_queues::{code_of, finished, is_refused_as};
+use raft_builder::{DefaultMachineFactory, RecoveryConfig};
 use raft_config::RecoveryMode;
 use raft_env::{FileSystem, IoKind};
 use raft_memory::{FsCall, MemoryFileSystem};
-use raft_opening::ReplayMachine;
-use raft_records::{Fault, FileId, Fresh, KeyValue, LogItem, LogItemContent, LogQueue};
+use raft_records::{Fault, LogQueue};
 use std::alloc::Global;
-use std::test::Fail;
 use std::thread::Threads;
-
-/// Takes the keys that batches put, each with the number of its file.
-#[derive(Drop)]
-struct Keys {
-    found: Vec<(u64, u8)>,
-}
-
-impl ReplayMachine for Keys {
-    ghost stands_for = { λ queue blocks earlier machine batches. Unit {0} };
-
-    fn replay(&mut self, items: &mut Vec<LogItem>, file: FileId) -> Result<(), Fault> {
-        for item in items.iter() {
-            if let LogItemContent::Kv(KeyValue::Put { key, value: _ }) = &item.content {
-                for byte in key {
-                    self.found.push((file.seq, *byte))?;
-                }
-            }
-        }
-        Ok(())
-    }
-}
-
-impl MergingMachine for Keys {
-    fn merge(&mut self, newer: Keys, _queue: LogQueue) -> Result<(), Fault> {
-        let mut newer = newer;
-        self.found.append(&mut newer.found)?;
-        Ok(())
-    }
-}
-
-impl Fresh for Keys {
-    ghost is_fresh = { λ keys. Unit {0} };
-
-    fn fresh(alloc: Global) -> Keys {
-        Keys {
-            found: Vec::new(alloc),
-        }
-    }
-}
 
 /// How many files each queue has.
 struct Case {
@@ -84,10 +47,12 @@ const THREADS: [usize; 5] = [0, 1, 2, 3, 8];
 
 /// Whether these are the keys of so many files, in order.
 fn are_all(keys: &Keys, files: u8) -> bool {
+    for (key, found) in (1..files.saturating_add(1)).zip(keys.found.iter()) {
+        if *found != (u64::from(key), key) {
+            return false;
+        }
+    }
     keys.found.len() == usize::from(files)
-        && (1..files.saturating_add(1))
-            .zip(keys.found.iter())
-            .all(|(key, found)| *found == (u64::from(key), key))
 }
 
 /// Whether so many workers find all keys, and all files are to be cut.
@@ -98,40 +63,39 @@ fn finds_all<R: Threads + Sync, F: FileSystem + Drop>(
     case: &Case,
     threads: usize,
 ) -> Result<bool, Fault> {
-    let mut fs = fs;
-    store_both(alloc, &mut fs, case.append, case.rewrite)?;
-    let mut builder = scanned(alloc, fs, threads)?;
-    let (appended, rewritten): (Keys, Keys) = builder.recover(
+    let mut builder = ready(alloc, fs, (case.append, case.rewrite), threads)?;
+    let found: Result<(Keys, Keys), Fault> = builder.recover(
         rt,
         &DefaultMachineFactory::new(alloc),
-    )?;
+    );
+    let cuts = builder.cuts().len();
+    drop(builder);
+    let (appended, rewritten) = found?;
     let files = usize::from(case.append) + usize::from(case.rewrite);
-    Ok(
-        are_all(&appended, case.append)
-            && are_all(&rewritten, case.rewrite)
-            && builder.cuts().len() == files,
-    )
+    Ok(are_all(&appended, case.append) && are_all(&rewritten, case.rewrite) && cuts == files)
+}
+
+fn finds_all_in_memory<R: Threads + Sync>(
+    rt: &R,
+    alloc: Global,
+    case: &Case,
+    threads: usize,
+) -> Result<bool, Fault> {
+    finds_all(rt, alloc, MemoryFileSystem::new(alloc), case, threads)
 }
 
 #[test]
-fn each_number_of_workers_finds_the_same(rt: HostRuntime) -> Result<(), Fail> {
+fn each_number_of_workers_finds_the_same(rt: HostRuntime) {
     for case in &CASES {
-        for threads in THREADS {
+        for threads in &THREADS {
             assert!(rt;
-                finds_all(
-                    &rt,
-                    rt.alloc(),
-                    MemoryFileSystem::new(rt.alloc()),
-                    case,
-                    threads
-                )?,
+                matches!(finds_all_in_memory(&rt, rt.alloc(), case, *threads), Ok(true)),
                 "{} and {} files, {threads} threads",
                 case.append,
                 case.rewrite
             );
         }
     }
-    Ok(())
 }
 
 /// What so many workers find of a queue that is read by itself, in a mode of its own: the keys, and how many files are to
@@ -143,11 +107,15 @@ fn read_queue<R: Threads + Sync, F: FileSystem + Drop>(
     case: &Case,
     recovery: RecoveryConfig,
 ) -> Result<(Keys, usize), Fault> {
-    let mut fs = fs;
-    store_both(alloc, &mut fs, case.append, case.rewrite)?;
-    let mut builder = scanned(alloc, fs, 1)?;
-    let keys = builder.recover_queue(rt, recovery, &DefaultMachineFactory::new(alloc))?;
-    Ok((keys, builder.cuts().len()))
+    let mut builder = ready(alloc, fs, (case.append, case.rewrite), 1)?;
+    let keys: Result<Keys, Fault> = builder.recover_queue(
+        rt,
+        recovery,
+        &DefaultMachineFactory::new(alloc),
+    );
+    let cuts = builder.cuts().len();
+    drop(builder);
+    Ok((keys?, cuts))
 }
 
 /// Whether all is found where damage is tolerated, nothing by no workers, and where none is tolerated the damage.
@@ -183,12 +151,12 @@ fn is_read_alone<R: Threads + Sync>(
 }
 
 #[test]
-fn each_queue_is_read_alone(rt: HostRuntime) -> Result<(), Fail> {
+fn each_queue_is_read_alone(rt: HostRuntime) {
     for case in &CASES {
-        for queue in [LogQueue::Append, LogQueue::Rewrite] {
-            for concurrency in THREADS {
+        for queue in &[LogQueue::Append, LogQueue::Rewrite] {
+            for concurrency in &THREADS {
                 assert!(rt;
-                    is_read_alone(&rt, rt.alloc(), case, queue, concurrency)?,
+                    matches!(is_read_alone(&rt, rt.alloc(), case, *queue, *concurrency), Ok(true)),
                     "{queue:?} of {} and {} files, {concurrency} workers",
                     case.append,
                     case.rewrite
@@ -196,59 +164,49 @@ fn each_queue_is_read_alone(rt: HostRuntime) -> Result<(), Fail> {
             }
         }
     }
-    Ok(())
 }
 
-/// Whether reading both queues fails as `Io`, cuts nothing, and leaves the opening unfinished.
-fn fails<R: Threads + Sync, F: FileSystem + Drop>(
-    rt: &R,
-    alloc: Global,
-    fs: F,
-    threads: usize,
-) -> Result<bool, Fault> {
-    let mut builder = scanned(alloc, fs, threads)?;
-    let read: Result<(Keys, Keys), Fault> = builder.recover(rt, &DefaultMachineFactory::new(alloc));
-    let refused = match read {
-        Ok(_keys) => 0,
-        Err(fault) => fault.code(),
-    };
-    let cuts = builder.cuts().len();
-    let finished = match builder.finish() {
-        Ok((_pipes, _fs)) => 0,
-        Err((fault, _fs)) => fault.code(),
-    };
-    Ok(refused == 3 && cuts == 0 && finished == 15)
-}
-
-/// The same with the nth call of a sort refused.
-fn is_refused<R: Threads + Sync>(
+/// Whether reading both queues fails as `Io` where the nth call of a sort is refused, cuts nothing,
+/// and leaves the opening unfinished.
+fn is_refused<R: Threads + Sync, F: Failing>(
     rt: &R,
     alloc: Global,
     call: FsCall,
     nth: u64,
     threads: usize,
 ) -> Result<bool, Fault> {
-    let mut fs = MemoryFileSystem::new(alloc);
+    let mut fs = F::fresh(alloc);
     store_both(alloc, &mut fs, 3, 2)?;
-    fs.refuse(call, nth, IoKind::Other)?;
-    fails(rt, alloc, fs, threads)
+    fs.fail(call, nth, IoKind::Other)?;
+    let mut builder = scanned(alloc, fs, threads)?;
+    let read: Result<(Keys, Keys), Fault> = builder.recover(rt, &DefaultMachineFactory::new(alloc));
+    let cuts_nothing = is_refused_as(read, 3) && builder.cuts().is_empty();
+    let (ended, _fs) = finished(builder);
+    Ok(cuts_nothing && code_of(ended) == Some(15))
+}
+
+fn is_refused_in_memory<R: Threads + Sync>(
+    rt: &R,
+    alloc: Global,
+    call: FsCall,
+    nth: u64,
+    threads: usize,
+) -> Result<bool, Fault> {
+    is_refused::<R, MemoryFileSystem>(rt, alloc, call, nth, threads)
 }
 
 #[test]
-fn a_refused_reading_cuts_nothing(rt: HostRuntime) -> Result<(), Fail> {
-    for threads in THREADS {
+fn a_refused_reading_cuts_nothing(rt: HostRuntime) {
+    for threads in &THREADS {
         for nth in 1..6 {
-            for call in [FsCall::Open, FsCall::NewReader, FsCall::FileSize] {
+            for call in &[FsCall::Open, FsCall::NewReader, FsCall::FileSize] {
                 assert!(rt;
-                    is_refused(&rt, rt.alloc(), call, nth, threads)?,
+                    matches!(is_refused_in_memory(&rt, rt.alloc(), *call, nth, *threads), Ok(true)),
                     "call {nth}, {threads} threads"
                 );
             }
         }
-        assert!(rt;
-            is_refused(&rt, rt.alloc(), FsCall::Read, 1, threads)?,
-            "a read, {threads} threads"
-        );
+        let refused = is_refused_in_memory(&rt, rt.alloc(), FsCall::Read, 1, *threads);
+        assert_at(&rt, refused, "a read, threads", *threads);
     }
-    Ok(())
 }

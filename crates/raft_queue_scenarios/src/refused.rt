@@ -1,31 +1,13 @@
 //! Checks of a folder's entries in which a call on the files fails.
 
-use crate::checks::{APPEND_1, APPEND_2, APPEND_3, Stored};
+use crate::checks::{APPEND_1, APPEND_2, APPEND_3, Stored, store_all};
+use crate::failing::Failing;
 use raft_consistency::consistency_check_with_file_system;
 use raft_env::{FileSystem, IoKind};
 use raft_memory::{FsCall, MemoryFileSystem};
 use raft_records::Fault;
-use raft_rows::store_in;
 use std::alloc::Global;
 use std::test::Fail;
-
-/// Files whose calls fail as they are told.
-trait Failing: FileSystem + Drop {
-    fn fresh(alloc: Global) -> Self;
-
-    /// The nth call of a sort fails from now on.
-    fn fail(&mut self, call: FsCall, nth: u64, kind: IoKind) -> Result<(), Fault>;
-}
-
-impl Failing for MemoryFileSystem {
-    fn fresh(alloc: Global) -> MemoryFileSystem {
-        MemoryFileSystem::new(alloc)
-    }
-
-    fn fail(&mut self, call: FsCall, nth: u64, kind: IoKind) -> Result<(), Fault> {
-        self.refuse(call, nth, kind)
-    }
-}
 
 const FILES: &[Stored] = &[APPEND_1, APPEND_2, APPEND_3];
 
@@ -46,15 +28,6 @@ const KINDS: [IoKind; 3] = [IoKind::NoSpace, IoKind::NotFound, IoKind::Other];
 
 /// More calls of a sort than a check makes.
 const MANY: u64 = 50;
-
-fn store_all<F: FileSystem>(alloc: Global, fs: &mut F) -> Result<(), Fault> {
-    for (path, parts) in FILES {
-        if let Err(fault) = store_in(fs, "data", path, parts) {
-            return Err(fault.with_path(alloc, path));
-        }
-    }
-    Ok(())
-}
 
 // Whether all holes are found, or else the check failed as the call did, and the files; none where
 // something else came of it.
@@ -85,7 +58,7 @@ fn fails_at<F: Failing>(
     kind: IoKind,
 ) -> Result<Option<bool>, Fault> {
     let mut fs = F::fresh(alloc);
-    store_all(alloc, &mut fs)?;
+    store_all(alloc, &mut fs, FILES)?;
     fs.fail(call, nth, kind)?;
     let (found, fs) = checked(alloc, fs, kind);
     let is_failed = fs.refusals() > 0;
@@ -118,8 +91,8 @@ fn count_failing<F: Failing>(
 // The place of the first sort whose failing calls come to something else.
 fn first_wrong<F: Failing>(alloc: Global) -> Result<Option<usize>, Fault> {
     for (place, sort) in SORTS.iter().enumerate() {
-        for kind in KINDS {
-            match count_failing::<F>(alloc, sort.0, kind)? {
+        for kind in &KINDS {
+            match count_failing::<F>(alloc, sort.0, *kind)? {
                 Some(count) if count >= sort.1 => {}
                 _ => return Ok(Some(place)),
             }
@@ -128,17 +101,21 @@ fn first_wrong<F: Failing>(alloc: Global) -> Result<Option<usize>, Fault> {
     Ok(None)
 }
 
+fn wrong_sort(alloc: Global) -> Result<Option<usize>, Fault> {
+    first_wrong::<MemoryFileSystem>(alloc)
+}
+
 #[test]
-fn a_failing_call_fails_the_check(rt: HostRuntime) -> Result<(), Fail> {
-    assert_eq!(rt; first_wrong::<MemoryFileSystem>(rt.alloc())?, None);
-    Ok(())
+fn a_failing_call_fails_the_check(rt: HostRuntime) {
+    let wrong = wrong_sort(rt.alloc());
+    assert!(rt; matches!(wrong, Ok(None)), "sort {wrong:?}");
 }
 
 // Whether a check finds all holes; with the Nth request for memory refused (`rt try --test --fail-
 // alloc N`) it says so, and the next one finds them.
 fn is_found<F: Failing>(alloc: Global) -> Result<bool, Fault> {
     let mut fs = F::fresh(alloc);
-    store_all(alloc, &mut fs)?;
+    store_all(alloc, &mut fs, FILES)?;
     match consistency_check_with_file_system(alloc, "data", fs) {
         Ok((holes, _fs)) => Ok(holes.as_slice() == HOLES),
         Err((Fault::Memory, fs)) => Ok(checked(alloc, fs, IoKind::Other).0 == Some(true)),
@@ -146,6 +123,7 @@ fn is_found<F: Failing>(alloc: Global) -> Result<bool, Fault> {
     }
 }
 
+// tools/refusals takes `error: Memory` for a want of memory.
 #[test]
 fn a_check_without_memory_is_made_again(rt: HostRuntime) -> Result<(), Fail> {
     assert!(rt; is_found::<MemoryFileSystem>(rt.alloc())?);

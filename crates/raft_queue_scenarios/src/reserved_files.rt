@@ -1,11 +1,12 @@
 //! Reserved files, the folder that a new file goes to, and metadata of files that are gone.
 
-use crate::folders::{self, store};
+use crate::failing::Failing;
+use crate::folders::{self, begun_in, has_zeros, len_at, store};
+use crate::told::assert_row;
 use crate::two_folders::settings;
-use crate::two_queues::read;
-use raft_builder::DualPipesBuilder;
+use crate::two_queues::pipes_of;
 use raft_config::Config;
-use raft_env::{FileSystem, FsFault, IoKind, Permission};
+use raft_env::{FileSystem, FsFault, IoKind};
 use raft_files::FileNameExt;
 use raft_memory::{FsCall, MemoryFileSystem};
 use raft_opening::clear_metadata;
@@ -13,7 +14,6 @@ use raft_opening::prefill::{SpareLimits, prefill};
 use raft_pipes::{LogFolders, SpareFile};
 use raft_records::{Fault, FileId, LogQueue, ReadableSize};
 use std::alloc::Global;
-use std::test::Fail;
 
 const RESERVED_1: &str = "data/0000000000000001.raftlog.reserved";
 
@@ -243,65 +243,61 @@ fn path_of(alloc: Global, seq: u64) -> Result<String, Fault> {
     FileId::new(LogQueue::Append, seq).build_file_path(alloc, "data")
 }
 
-fn is_cleared(alloc: Global, row: &Cleared) -> Result<bool, Fail> {
-    let mut fs = MemoryFileSystem::new(alloc);
-    for seq in row.had {
-        fs.set_metadata(path_of(alloc, *seq)?.as_str())?;
+// Gives the files of these numbers metadata.
+fn note_all<F: Failing>(alloc: Global, fs: &mut F, seqs: &[u64]) -> Result<(), Fault> {
+    for seq in seqs {
+        fs.note(path_of(alloc, *seq)?.as_str())?;
     }
-    if let Some(nth) = row.refused {
-        fs.refuse(FsCall::DeleteMetadata, nth, IoKind::Other)?;
-    }
-    let folders = LogFolders::new(&folders::settings(alloc)?)?;
-    clear_metadata(alloc, &folders, LogQueue::Append, row.first, &mut fs)?;
+    Ok(())
+}
+
+// Whether of the files that had metadata these alone have some.
+fn are_left<F: FileSystem>(
+    alloc: Global,
+    fs: &F,
+    had: &[u64],
+    left: &[u64],
+) -> Result<bool, Fault> {
     let mut is_so = true;
-    for seq in row.had {
-        let has = fs.exists_metadata(path_of(alloc, *seq)?.as_str());
-        is_so = has == row.left.contains(seq) && is_so;
+    for seq in had {
+        let path = path_of(alloc, *seq)?;
+        is_so = fs.exists_metadata(path.as_str()) == left.contains(seq) && is_so;
     }
     Ok(is_so)
 }
 
-fn is_placed(alloc: Global, row: &Room) -> Result<bool, Fail> {
-    let mut fs = MemoryFileSystem::new(alloc);
-    fs.set_free("data", row.free.0)?;
-    fs.set_free("more", row.free.1)?;
+fn is_cleared<F: Failing>(alloc: Global, row: &Cleared) -> Result<bool, Fault> {
+    let mut fs = F::fresh(alloc);
+    note_all(alloc, &mut fs, row.had)?;
     if let Some(nth) = row.refused {
-        fs.refuse(FsCall::FreeSpace, nth, IoKind::Other)?;
+        fs.fail(FsCall::DeleteMetadata, nth, IoKind::Other)?;
     }
-    let folders = LogFolders::new(&settings(alloc, &("data", "more"))?)?;
-    Ok(folders.choose(1024, &mut fs) == row.place)
+    let folders = LogFolders::new(&folders::settings(alloc)?)?;
+    clear_metadata(alloc, &folders, LogQueue::Append, row.first, &mut fs)?;
+    are_left(alloc, &fs, row.had, row.left)
 }
 
-// The length of the file at the path, if one stands there.
-fn len_at<F: FileSystem>(fs: &mut F, path: &str) -> Result<Option<usize>, FsFault> {
-    if !fs.is_file(path) {
-        return Ok(None);
-    }
-    let handle = fs.open(path, Permission::ReadOnly)?;
-    Ok(Some(fs.file_size(&handle)?))
+fn both_folders(alloc: Global) -> Result<LogFolders, Fault> {
+    LogFolders::new(&settings(alloc, &("data", "more"))?)
 }
 
-// Whether the file at the path begins with so many zeros.
-fn has_zeros<F: FileSystem>(
-    alloc: Global,
-    fs: &mut F,
-    path: &str,
-    len: usize,
-) -> Result<bool, FsFault> {
-    let handle = fs.open(path, Permission::ReadOnly)?;
-    let mut reader = fs.new_reader(&handle)?;
-    let mut bytes = vec![in alloc; 7; len]?;
-    let read = fs.read(&mut reader, 0, &mut bytes);
-    fs.end_reader(reader);
-    Ok(read? == len && bytes.iter().all(|byte| *byte == 0))
+fn is_placed<F: Failing>(alloc: Global, row: &Room) -> Result<bool, Fault> {
+    let mut fs = F::fresh(alloc);
+    fs.free_to("data", row.free.0)?;
+    fs.free_to("more", row.free.1)?;
+    if let Some(nth) = row.refused {
+        fs.fail(FsCall::FreeSpace, nth, IoKind::Other)?;
+    }
+    Ok(both_folders(alloc)?.choose(1024, &mut fs) == row.place)
 }
 
 fn are_spare(spare: &[SpareFile], wanted: &[&str]) -> bool {
+    for (file, path) in spare.iter().zip(wanted) {
+        if file.path() != *path {
+            return false;
+        }
+    }
     spare.len() == wanted.len()
-        && spare
-            .iter()
-            .zip(wanted.iter())
-            .all(|(file, path)| file.path() == *path)
 }
 
 fn is_answer(answer: Result<Vec<SpareFile>, Fault>, wanted: &Answer) -> bool {
@@ -312,17 +308,37 @@ fn is_answer(answer: Result<Vec<SpareFile>, Fault>, wanted: &Answer) -> bool {
     }
 }
 
-fn is_prefilled(alloc: Global, row: &Prefilled) -> Result<bool, Fail> {
-    let mut fs = MemoryFileSystem::new(alloc);
+fn make_files<F: FileSystem>(fs: &mut F, paths: &[&str]) -> Result<(), FsFault> {
     fs.make_dir("data")?;
     fs.make_dir("more")?;
-    for path in row.stored {
+    for path in paths {
         fs.create(path)?;
     }
-    if let Some((call, nth, kind)) = row.refused {
-        fs.refuse(call, nth, kind)?;
+    Ok(())
+}
+
+fn have_lengths<F: FileSystem>(
+    alloc: Global,
+    fs: &mut F,
+    files: &[(&str, Option<usize>)],
+) -> Result<bool, Fault> {
+    let mut is_so = true;
+    for (path, len) in files {
+        is_so = len_at(alloc, fs, path)? == *len && is_so;
     }
-    let folders = LogFolders::new(&settings(alloc, &("data", "more"))?)?;
+    Ok(is_so)
+}
+
+// Whether making files ahead comes to what the row says.
+fn is_prefilled<F: Failing>(alloc: Global, row: &Prefilled) -> Result<bool, Fault> {
+    let mut fs = F::fresh(alloc);
+    if let Err(fault) = make_files(&mut fs, row.stored) {
+        return Err(fault.with_path(alloc, ""));
+    }
+    if let Some((call, nth, kind)) = row.refused {
+        fs.fail(call, nth, kind)?;
+    }
+    let folders = both_folders(alloc)?;
     let found = folders.find_reserved(alloc, &mut fs)?;
     let limits = SpareLimits {
         recycle: row.limits.0,
@@ -338,30 +354,14 @@ fn is_prefilled(alloc: Global, row: &Prefilled) -> Result<bool, Fail> {
         size,
         &mut fs,
     );
-    let mut is_so = is_answer(answer, &row.spare);
-    for (path, len) in row.after {
-        is_so = len_at(&mut fs, path)? == *len && is_so;
-    }
-    Ok(is_so)
+    Ok(is_answer(answer, &row.spare) && have_lengths(alloc, &mut fs, row.after)?)
 }
 
 // The files after an opening in these settings.
-fn opened(
-    alloc: Global,
-    config: &Config,
-    files: MemoryFileSystem,
-) -> Result<MemoryFileSystem, Fault> {
-    let mut builder = match DualPipesBuilder::new(alloc, config, files) {
-        Ok(builder) => builder,
-        Err((fault, _files)) => return Err(fault),
-    };
-    builder.scan()?;
-    read(&mut builder, LogQueue::Append)?;
-    read(&mut builder, LogQueue::Rewrite)?;
-    match builder.finish() {
-        Ok((_pipes, files)) => Ok(files),
-        Err((fault, _files)) => Err(fault),
-    }
+fn opened<F: FileSystem + Drop>(alloc: Global, config: &Config, files: F) -> Result<F, Fault> {
+    let (pipes, files) = pipes_of(begun_in(alloc, config, files)?)?;
+    drop(pipes);
+    Ok(files)
 }
 
 // Settings with four spare files of 1024 bytes, which are made ahead or not.
@@ -375,63 +375,111 @@ fn spare_settings(alloc: Global, is_prefilling: bool) -> Result<Config, Fault> {
     Ok(config)
 }
 
-#[test]
-fn an_opening_makes_reserved_files(rt: HostRuntime) -> Result<(), Fail> {
-    let mut files = MemoryFileSystem::new(rt.alloc());
-    for (is_prefilling, len) in &[(true, Some(1024)), (false, None)] {
-        let config = spare_settings(rt.alloc(), *is_prefilling)?;
-        files = opened(rt.alloc(), &config, files)?;
-        for path in &[RESERVED_1, RESERVED_2, RESERVED_3, RESERVED_4] {
-            assert!(rt; len_at(&mut files, path)? == *len, "{path}");
-            if let Some(len) = len {
-                assert!(rt; has_zeros(rt.alloc(), &mut files, path, *len)?, "{path}");
-            }
+// Whether all reserved files have so many zeros, or none stands.
+fn are_reserved<F: FileSystem>(
+    alloc: Global,
+    fs: &mut F,
+    len: Option<usize>,
+) -> Result<bool, Fault> {
+    for path in &[RESERVED_1, RESERVED_2, RESERVED_3, RESERVED_4] {
+        let is_so = match len {
+            Some(len) => has_zeros(alloc, fs, path, len)?,
+            None => true,
+        };
+        if !is_so || len_at(alloc, fs, path)? != len {
+            return Ok(false);
         }
     }
-    Ok(())
+    Ok(true)
+}
+
+// The files after an opening that makes reserved files of this length, or deletes them.
+fn reserved<F: FileSystem + Drop>(
+    alloc: Global,
+    files: F,
+    len: Option<usize>,
+) -> Result<Option<F>, Fault> {
+    let mut files = opened(alloc, &spare_settings(alloc, len.is_some())?, files)?;
+    Ok(if are_reserved(alloc, &mut files, len)? {
+        Some(files)
+    } else {
+        None
+    })
+}
+
+fn are_made_and_deleted<F: FileSystem + Drop>(alloc: Global, files: F) -> Result<bool, Fault> {
+    match reserved(alloc, files, Some(1024))? {
+        Some(files) => Ok(reserved(alloc, files, None)?.is_some()),
+        None => Ok(false),
+    }
+}
+
+fn scan_clears<F: Failing>(alloc: Global) -> Result<bool, Fault> {
+    let mut files = F::fresh(alloc);
+    let path = path_of(alloc, 200)?;
+    store(alloc, &mut files, path.as_str(), &[folders::HEADER])?;
+    note_all(alloc, &mut files, &[7, 8, 9])?;
+    let files = opened(alloc, &folders::settings(alloc)?, files)?;
+    are_left(alloc, &files, &[7, 8, 9], &[])
+}
+
+/// What is tried over files that are fresh.
+#[derive(Clone, Copy)]
+enum Tried {
+    /// An opening makes reserved files, and the next one deletes them.
+    Opening,
+    Scan,
+    Clearing(&'static Cleared),
+    Placing(&'static Room),
+    Prefilling(&'static Prefilled),
+}
+
+fn holds<F: Failing>(alloc: Global, tried: &Tried) -> Result<bool, Fault> {
+    match tried {
+        Tried::Opening => are_made_and_deleted(alloc, F::fresh(alloc)),
+        Tried::Scan => scan_clears::<F>(alloc),
+        Tried::Clearing(row) => is_cleared::<F>(alloc, row),
+        Tried::Placing(row) => is_placed::<F>(alloc, row),
+        Tried::Prefilling(row) => is_prefilled::<F>(alloc, row),
+    }
+}
+
+fn holds_in_memory(alloc: Global, tried: &Tried) -> Result<bool, Fault> {
+    holds::<MemoryFileSystem>(alloc, tried)
 }
 
 #[test]
-fn a_scan_clears_metadata(rt: HostRuntime) -> Result<(), Fail> {
-    let mut files = MemoryFileSystem::new(rt.alloc());
-    store(
-        &mut files,
-        path_of(rt.alloc(), 200)?.as_str(),
-        &[folders::HEADER],
-    )?;
-    for seq in &[7, 8, 9] {
-        files.set_metadata(path_of(rt.alloc(), *seq)?.as_str())?;
-    }
-    let files = opened(rt.alloc(), &folders::settings(rt.alloc())?, files)?;
-    for seq in &[7, 8, 9] {
-        assert!(rt;
-            !files.exists_metadata(path_of(rt.alloc(), *seq)?.as_str()),
-            "{seq}"
-        );
-    }
-    Ok(())
+fn an_opening_makes_reserved_files(rt: HostRuntime) {
+    let held = holds_in_memory(rt.alloc(), &Tried::Opening);
+    assert_row(&rt, held, "reserved files");
 }
 
 #[test]
-fn metadata_before_a_first_file_are_cleared(rt: HostRuntime) -> Result<(), Fail> {
+fn a_scan_clears_metadata(rt: HostRuntime) {
+    let held = holds_in_memory(rt.alloc(), &Tried::Scan);
+    assert_row(&rt, held, "metadata");
+}
+
+#[test]
+fn metadata_before_a_first_file_are_cleared(rt: HostRuntime) {
     for row in &CLEARED {
-        assert!(rt; is_cleared(rt.alloc(), row)?, "{}", row.name);
+        let held = holds_in_memory(rt.alloc(), &Tried::Clearing(row));
+        assert_row(&rt, held, row.name);
     }
-    Ok(())
 }
 
 #[test]
-fn a_new_file_goes_where_there_is_room(rt: HostRuntime) -> Result<(), Fail> {
+fn a_new_file_goes_where_there_is_room(rt: HostRuntime) {
     for row in &ROOM {
-        assert!(rt; is_placed(rt.alloc(), row)?, "{}", row.name);
+        let held = holds_in_memory(rt.alloc(), &Tried::Placing(row));
+        assert_row(&rt, held, row.name);
     }
-    Ok(())
 }
 
 #[test]
-fn reserved_files_are_made(rt: HostRuntime) -> Result<(), Fail> {
+fn reserved_files_are_made(rt: HostRuntime) {
     for row in &PREFILLED {
-        assert!(rt; is_prefilled(rt.alloc(), row)?, "{}", row.name);
+        let held = holds_in_memory(rt.alloc(), &Tried::Prefilling(row));
+        assert_row(&rt, held, row.name);
     }
-    Ok(())
 }

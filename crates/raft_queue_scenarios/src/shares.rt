@@ -1,7 +1,6 @@
 //! How many workers read each queue, and how many files each takes.
 
 use raft_builder::{Workers, chunk_len, workers_for};
-use std::test::Fail;
 
 /// Threads and files of both queues, the workers of each, and how many files each of them takes
 /// at most.
@@ -81,9 +80,8 @@ fn is_as_said(case: &Case) -> bool {
 }
 
 #[test]
-fn chunks_for_workers(rt: HostRuntime) -> Result<(), Fail> {
+fn chunks_for_workers(rt: HostRuntime) {
     for case in &CASES {
         assert!(rt; is_as_said(case), "{} threads", case.threads);
     }
-    Ok(())
 }

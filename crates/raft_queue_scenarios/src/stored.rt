@@ -1,12 +1,13 @@
 //! Log files that the tests of workers read.
 
+use crate::folders::begun_in;
 use raft_builder::DualPipesBuilder;
 use raft_config::{Config, RecoveryMode};
 use raft_env::FileSystem;
 use raft_files::FileNameExt;
 use raft_records::{Fault, FileId, Fresh, LogBatch, LogFileContext, LogQueue, Version};
 use raft_rows::store;
-use std::alloc::Global;
+use std::alloc::{AllocError, Global};
 
 /// That of a file in version 2.
 pub(crate) const HEADER: &[u8] =
@@ -17,6 +18,12 @@ const TORN: &[u8] = &[7; 5];
 
 const FOLDER: &str = "data";
 
+fn populate(alloc: Global, batch: &mut LogBatch, key: u8) -> Result<(), Fault> {
+    batch.put(1, vec![in alloc; key]?, Vec::new(alloc))?;
+    batch.finish_populate()?;
+    Ok(())
+}
+
 // A file of one batch, which puts this key, and of bytes that can't be read.
 fn store_key<F: FileSystem>(
     alloc: Global,
@@ -25,11 +32,10 @@ fn store_key<F: FileSystem>(
     key: u8,
 ) -> Result<(), Fault> {
     let id = FileId::new(queue, u64::from(key));
-    let mut batch = LogBatch::new(alloc);
-    batch.put(1, vec![in alloc; key]?, Vec::new(alloc))?;
-    batch.finish_populate()?;
-    batch.prepare_write(&LogFileContext::new(id, Version::V2));
     let path = id.build_file_path(alloc, FOLDER)?;
+    let mut batch = LogBatch::new(alloc);
+    populate(alloc, &mut batch, key)?;
+    batch.prepare_write(&LogFileContext::new(id, Version::V2));
     match store(fs, path.as_str(), &[HEADER, batch.encoded_bytes(), TORN]) {
         Ok(()) => Ok(()),
         Err(fault) => Err(fault.with_path(alloc, path.as_str())),
@@ -57,6 +63,14 @@ pub(crate) fn store_both<F: FileSystem>(
     Ok(())
 }
 
+fn settings(alloc: Global, threads: usize) -> Result<Config, AllocError> {
+    let mut config = Config::fresh(alloc);
+    config.dir.push_str(FOLDER)?;
+    config.recovery_mode = RecoveryMode::TolerateAnyCorruption;
+    config.recovery_threads = threads;
+    Ok(config)
+}
+
 /// An opening of both queues that has found their files, for so many threads, and tolerates all
 /// damage.
 pub(crate) fn scanned<F: FileSystem + Drop>(
@@ -64,14 +78,24 @@ pub(crate) fn scanned<F: FileSystem + Drop>(
     fs: F,
     threads: usize,
 ) -> Result<DualPipesBuilder<F>, Fault> {
-    let mut config = Config::fresh(alloc);
-    config.dir.push_str(FOLDER)?;
-    config.recovery_mode = RecoveryMode::TolerateAnyCorruption;
-    config.recovery_threads = threads;
-    let mut builder = match DualPipesBuilder::new(alloc, &config, fs) {
-        Ok(builder) => builder,
-        Err((fault, _fs)) => return Err(fault),
-    };
-    builder.scan()?;
-    Ok(builder)
+    let mut builder = begun_in(alloc, &settings(alloc, threads)?, fs)?;
+    match builder.scan() {
+        Ok(()) => Ok(builder),
+        Err(fault) => {
+            drop(builder);
+            Err(fault)
+        }
+    }
+}
+
+/// .. over so many files of each queue.
+pub(crate) fn ready<F: FileSystem + Drop>(
+    alloc: Global,
+    fs: F,
+    files: (u8, u8),
+    threads: usize,
+) -> Result<DualPipesBuilder<F>, Fault> {
+    let mut fs = fs;
+    store_both(alloc, &mut fs, files.0, files.1)?;
+    scanned(alloc, fs, threads)
 }

@@ -1,16 +1,16 @@
 //! Queues whose log files stand in both folders of the settings: which of them a recovery keeps, and when there is no opening.
 
-use crate::folders::HEADER;
-use crate::two_queues::{PUT_1, PUT_2, Wanted, are_cuts, read_both};
+use crate::folders::{HEADER, begun_in, count_in, have_lengths};
+use crate::told::assert_row;
+use crate::two_queues::{Ended, PUT_1, PUT_2, Wanted, are_cuts, finished, read_both};
 use raft_builder::DualPipesBuilder;
 use raft_config::Config;
-use raft_env::{FileSystem, FsFault, Permission};
+use raft_env::FileSystem;
 use raft_memory::MemoryFileSystem;
 use raft_pipes::file_list::{FileKind, FoundFile, scan};
 use raft_records::{Fault, Fresh, LogQueue};
 use raft_rows::store_in;
 use std::alloc::{AllocError, Global};
-use std::test::Fail;
 
 /// A folder, the path of a file in it, and the file's bytes.
 type Stored = (&'static str, &'static str, &'static [&'static [u8]]);
@@ -243,34 +243,43 @@ fn openings() -> [&'static [Opening]; 2] {
     [&OPENED, &REFUSED]
 }
 
-fn store_all<F: FileSystem>(fs: &mut F, stored: &[Stored]) -> Result<(), FsFault> {
+fn store_all<F: FileSystem>(alloc: Global, fs: &mut F, stored: &[Stored]) -> Result<(), Fault> {
     for (folder, path, parts) in stored {
-        store_in(fs, folder, path, parts)?;
+        if let Err(fault) = store_in(fs, folder, path, parts) {
+            return Err(fault.with_path(alloc, path));
+        }
     }
     Ok(())
 }
 
-// The folders, which are made where they aren't there.
-fn both_folders<F: FileSystem>(alloc: Global, fs: &mut F) -> Result<Vec<String>, Fail> {
-    let mut folders = Vec::new(alloc);
-    for name in &["data", "more"] {
-        fs.make_dir(name)?;
-        let mut folder = String::new(alloc);
-        folder.push_str(name)?;
-        folders.push(folder)?;
+// Adds a folder, which is made where it isn't there.
+fn add_folder<F: FileSystem>(
+    alloc: Global,
+    fs: &mut F,
+    name: &str,
+    folders: &mut Vec<String>,
+) -> Result<(), Fault> {
+    if let Err(fault) = fs.make_dir(name) {
+        return Err(fault.with_path(alloc, name));
     }
-    Ok(folders)
+    folders.push(String::from_str(alloc, name)?)?;
+    Ok(())
 }
 
 fn are_kept(found: &[FoundFile], wanted: &[(&str, bool)]) -> bool {
+    for (file, (path, is_only)) in found.iter().zip(wanted) {
+        if file.path.as_str() != *path || file.is_only != *is_only {
+            return false;
+        }
+    }
     found.len() == wanted.len()
-        && found.iter().zip(wanted.iter()).all(|(file, wanted)| file.path.as_str() == wanted.0
-            && file.is_only == wanted.1)
 }
 
-fn is_scanned<F: FileSystem>(alloc: Global, fs: &mut F, row: &Scan) -> Result<bool, Fail> {
-    store_all(fs, row.stored)?;
-    let folders = both_folders(alloc, fs)?;
+fn is_scanned<F: FileSystem>(alloc: Global, fs: &mut F, row: &Scan) -> Result<bool, Fault> {
+    store_all(alloc, fs, row.stored)?;
+    let mut folders = Vec::new(alloc);
+    add_folder(alloc, fs, "data", &mut folders)?;
+    add_folder(alloc, fs, "more", &mut folders)?;
     let found = scan(alloc, &folders, FileKind::Log(LogQueue::Append), fs)?;
     Ok(are_kept(found.as_slice(), row.kept))
 }
@@ -285,27 +294,24 @@ pub(crate) fn settings(alloc: Global, folders: &(&str, &str)) -> Result<Config, 
     Ok(config)
 }
 
-// Whether the scan found what the opening says.
-fn reads<F: FileSystem>(builder: &mut DualPipesBuilder<F>, found: &Found) -> Result<bool, Fault> {
-    let (batches, rewritten) = read_both(builder)?;
-    Ok(rewritten == 0 && batches == found.batches && are_cuts(builder.cuts(), found.cuts))
+// Whether the opening ended with these first and last files of the Append queue.
+fn has_span(ended: Ended, span: (u64, u64)) -> bool {
+    match ended {
+        Ok((append, _rewrite)) => append == span,
+        Err(_code) => false,
+    }
 }
 
 // The files after an opening that goes on after its scan, if it comes to what it says.
-fn finished<F: FileSystem + Drop>(
+fn gone_on<F: FileSystem + Drop>(
     mut builder: DualPipesBuilder<F>,
     found: &Found,
 ) -> Result<Option<F>, Fault> {
-    if !reads(&mut builder, found)? {
-        return Ok(None);
-    }
-    match builder.finish() {
-        Ok((pipes, files)) => {
-            let is_found = pipes.file_span(LogQueue::Append) == found.span;
-            Ok(if is_found { Some(files) } else { None })
-        }
-        Err((fault, _files)) => Err(fault),
-    }
+    let read = read_both(&mut builder);
+    let are_cut = are_cuts(builder.cuts(), found.cuts);
+    let (ended, files) = finished(builder);
+    let is_found = read? == (found.batches, 0) && are_cut && has_span(ended, found.span);
+    Ok(if is_found { Some(files) } else { None })
 }
 
 // The files after the opening, if it comes to what it says.
@@ -313,80 +319,72 @@ fn opened<F: FileSystem + Drop>(
     mut builder: DualPipesBuilder<F>,
     row: &Opening,
 ) -> Result<Option<F>, Fault> {
-    match builder.scan() {
-        Ok(()) => match &row.found {
-            Ok(found) => finished(builder, found),
-            Err(_code) => Ok(None),
-        },
-        Err(fault) => match &row.found {
-            Ok(_found) => Err(fault),
-            Err(code) => {
-                let is_wanted = fault.code() == *code;
-                Ok(if is_wanted {
-                    Some(builder.give_up())
-                } else {
-                    None
-                })
-            }
-        },
+    let code = match builder.scan() {
+        Ok(()) => 0,
+        Err(fault) => fault.code(),
+    };
+    match &row.found {
+        Ok(found) if code == 0 => gone_on(builder, found),
+        Err(wanted) if code == *wanted => Ok(Some(builder.give_up())),
+        _ => {
+            drop(builder);
+            Ok(None)
+        }
     }
-}
-
-// How many files and folders stand in these folders.
-fn count<F: FileSystem>(fs: &mut F, folders: &(&str, &str)) -> Result<usize, FsFault> {
-    let mut count = 0usize;
-    if fs.is_dir(folders.0) {
-        count = fs.list(folders.0)?.len();
-    }
-    if fs.is_dir(folders.1) && folders.0 != folders.1 {
-        count = count.saturating_add(fs.list(folders.1)?.len());
-    }
-    Ok(count)
 }
 
 // Whether these files stand alone, with these lengths.
-fn have_stayed<F: FileSystem>(fs: &mut F, row: &Opening) -> Result<bool, FsFault> {
-    let in_place = row
-        .files
-        .iter()
-        .filter(|file| !file.0.contains("/"))
-        .count();
-    let mut equal = count(fs, &row.folders)?.saturating_add(in_place) == row.files.len();
-    for (path, len) in row.files {
-        let handle = fs.open(path, Permission::ReadOnly)?;
-        equal = fs.file_size(&handle)? == *len && equal;
+fn have_stayed<F: FileSystem>(alloc: Global, fs: &mut F, row: &Opening) -> Result<bool, Fault> {
+    let (main, spill) = row.folders;
+    let mut counted: usize = 0;
+    if fs.is_dir(main) {
+        counted = count_in(alloc, fs, main)?;
     }
-    Ok(equal)
+    if fs.is_dir(spill) && main != spill {
+        counted = counted.saturating_add(count_in(alloc, fs, spill)?);
+    }
+    for (path, _) in row.files {
+        if !path.contains("/") {
+            counted = counted.saturating_add(1);
+        }
+    }
+    Ok(have_lengths(alloc, fs, row.files)? && counted == row.files.len())
 }
 
-fn is_as_said<F: FileSystem + Drop>(alloc: Global, mut fs: F, row: &Opening) -> Result<bool, Fail> {
-    store_all(&mut fs, row.stored)?;
-    let builder = match DualPipesBuilder::new(alloc, &settings(alloc, &row.folders)?, fs) {
-        Ok(builder) => builder,
-        Err(_refused) => return Ok(false),
-    };
+fn is_as_said<F: FileSystem + Drop>(
+    alloc: Global,
+    mut fs: F,
+    row: &Opening,
+) -> Result<bool, Fault> {
+    store_all(alloc, &mut fs, row.stored)?;
+    let builder = begun_in(alloc, &settings(alloc, &row.folders)?, fs)?;
     match opened(builder, row)? {
-        Some(mut files) => Ok(have_stayed(&mut files, row)?),
+        Some(mut files) => have_stayed(alloc, &mut files, row),
         None => Ok(false),
     }
 }
 
-#[test]
-fn the_second_folders_files_are_kept(rt: HostRuntime) -> Result<(), Fail> {
-    for row in &SCANS {
-        let mut files = MemoryFileSystem::new(rt.alloc());
-        assert!(rt; is_scanned(rt.alloc(), &mut files, row)?, "{}", row.name);
-    }
-    Ok(())
+fn is_scanned_in_memory(alloc: Global, row: &Scan) -> Result<bool, Fault> {
+    let mut fs = MemoryFileSystem::new(alloc);
+    is_scanned(alloc, &mut fs, row)
 }
 
 #[test]
-fn both_folders_are_opened(rt: HostRuntime) -> Result<(), Fail> {
+fn the_second_folders_files_are_kept(rt: HostRuntime) {
+    for row in &SCANS {
+        assert_row(&rt, is_scanned_in_memory(rt.alloc(), row), row.name);
+    }
+}
+
+fn is_so_in_memory(alloc: Global, row: &Opening) -> Result<bool, Fault> {
+    is_as_said(alloc, MemoryFileSystem::new(alloc), row)
+}
+
+#[test]
+fn both_folders_are_opened(rt: HostRuntime) {
     for rows in &openings() {
         for row in *rows {
-            let files = MemoryFileSystem::new(rt.alloc());
-            assert!(rt; is_as_said(rt.alloc(), files, row)?, "{}", row.name);
+            assert_row(&rt, is_so_in_memory(rt.alloc(), row), row.name);
         }
     }
-    Ok(())
 }

@@ -1,14 +1,14 @@
 //! Both queues of a folder, opened in stages: what is read of each, where their files are cut, and what is left of them.
 
-use crate::folders::{HEADER, begun, have_lengths, store};
+use crate::folders::{HEADER, begun, stand_alone, store};
+use crate::told::assert_row;
 use raft_builder::{Cut, DualPipesBuilder};
-use raft_env::{FileSystem, FsFault};
+use raft_env::FileSystem;
 use raft_memory::MemoryFileSystem;
 use raft_opening::ReplayMachine;
 use raft_queues::DualPipes;
 use raft_records::{Factory, Fault, FileId, LogItem, LogQueue};
 use std::alloc::Global;
-use std::test::Fail;
 
 /// A record of 28 bytes, signed for file 1 of either queue, and one for file 2; by Python's struct and zlib.
 pub(super) const PUT_1: &[u8] =
@@ -213,6 +213,27 @@ pub(super) fn read<F: FileSystem>(
     Ok(machine.batches)
 }
 
+fn read_each<F: FileSystem>(builder: &mut DualPipesBuilder<F>) -> Result<(), Fault> {
+    builder.scan()?;
+    read(builder, LogQueue::Rewrite)?;
+    read(builder, LogQueue::Append)?;
+    Ok(())
+}
+
+// The pipes of the files that the opening finds, each of which is read, and the files.
+pub(super) fn pipes_of<F: FileSystem + Drop>(
+    mut builder: DualPipesBuilder<F>,
+) -> Result<(DualPipes<F>, F), Fault> {
+    if let Err(fault) = read_each(&mut builder) {
+        drop(builder);
+        return Err(fault);
+    }
+    match builder.finish() {
+        Ok(done) => Ok(done),
+        Err((fault, _files)) => Err(fault),
+    }
+}
+
 // How many batches are read of the Append queue, and of the Rewrite queue.
 pub(super) fn read_both<F: FileSystem>(
     builder: &mut DualPipesBuilder<F>,
@@ -222,13 +243,16 @@ pub(super) fn read_both<F: FileSystem>(
 }
 
 pub(super) fn are_cuts(cuts: &[Cut], wanted: &[Wanted]) -> bool {
+    for (cut, (queue, seq, len)) in cuts.iter().zip(wanted) {
+        let is_wanted = cut.id == FileId::new(*queue, *seq) && cut.len == *len;
+        if !is_wanted {
+            return false;
+        }
+    }
     cuts.len() == wanted.len()
-        && cuts.iter().zip(wanted.iter()).all(|(cut, wanted)| {
-            cut.id.queue == wanted.0 && cut.id.seq == wanted.1 && cut.len == wanted.2
-        })
 }
 
-fn is_refused<T: Drop>(answer: Result<T, Fault>, code: u8) -> bool {
+pub(super) fn is_refused_as<T: Drop>(answer: Result<T, Fault>, code: u8) -> bool {
     match answer {
         Ok(_answer) => false,
         Err(fault) => fault.code() == code,
@@ -242,10 +266,10 @@ fn holds<F: FileSystem>(builder: &mut DualPipesBuilder<F>, step: &Step) -> Resul
             builder.scan()?;
             Ok(true)
         }
-        Step::ScanRefused(code) => Ok(is_refused(builder.scan(), *code)),
+        Step::ScanRefused(code) => Ok(is_refused_as(builder.scan(), *code)),
         Step::Read(queue, batches) => Ok(read(builder, *queue)? == *batches),
         Step::ReadBoth(appended, rewritten) => Ok(read_both(builder)? == (*appended, *rewritten)),
-        Step::ReadRefused(queue, code) => Ok(is_refused(read(builder, *queue), *code)),
+        Step::ReadRefused(queue, code) => Ok(is_refused_as(read(builder, *queue), *code)),
         Step::Cuts(wanted) => Ok(are_cuts(builder.cuts(), wanted)),
     }
 }
@@ -262,20 +286,27 @@ fn are_taken<F: FileSystem>(
 }
 
 /// The first file and the last one of each queue, or the code with which the opening isn't finished.
-type Ended = Result<((u64, u64), (u64, u64)), u8>;
+pub(super) type Ended = Result<((u64, u64), (u64, u64)), u8>;
 
-fn finished<F: FileSystem + Drop>(builder: DualPipesBuilder<F>) -> (Ended, F) {
+// The files after the end of an opening.
+pub(super) fn finished<F: FileSystem + Drop>(builder: DualPipesBuilder<F>) -> (Ended, F) {
     match builder.finish() {
-        Ok((pipes, files)) => (Ok(spans_of(&pipes)), files),
+        Ok((pipes, files)) => {
+            let append = pipes.file_span(LogQueue::Append);
+            let rewrite = pipes.file_span(LogQueue::Rewrite);
+            drop(pipes);
+            (Ok((append, rewrite)), files)
+        }
         Err((fault, files)) => (Err(fault.code()), files),
     }
 }
 
-fn spans_of<F: FileSystem>(pipes: &DualPipes<F>) -> ((u64, u64), (u64, u64)) {
-    (
-        pipes.file_span(LogQueue::Append),
-        pipes.file_span(LogQueue::Rewrite),
-    )
+// The code with which an opening isn't finished.
+pub(super) fn code_of(ended: Ended) -> Option<u8> {
+    match ended {
+        Ok(_spans) => None,
+        Err(code) => Some(code),
+    }
 }
 
 fn is_end(ended: Ended, wanted: &Result<(u64, u64), u8>) -> bool {
@@ -288,40 +319,37 @@ fn is_end(ended: Ended, wanted: &Result<(u64, u64), u8>) -> bool {
     }
 }
 
-fn store_all<F: FileSystem>(fs: &mut F, case: &Case) -> Result<(), FsFault> {
-    for (path, parts) in case.stored {
-        store(fs, path, parts)?;
-    }
-    Ok(())
-}
-
 // The files after the opening, if its steps and its end come to what they say.
 fn opened<F: FileSystem + Drop>(alloc: Global, fs: F, case: &Case) -> Result<Option<F>, Fault> {
     let mut builder = begun(alloc, fs)?;
-    let are_right = are_taken(&mut builder, case.steps)?;
+    let taken = are_taken(&mut builder, case.steps);
     let (ended, files) = finished(builder);
-    if are_right && is_end(ended, &case.finished) {
+    if taken? && is_end(ended, &case.finished) {
         Ok(Some(files))
     } else {
         Ok(None)
     }
 }
 
-fn is_as_said<F: FileSystem + Drop>(alloc: Global, mut fs: F, case: &Case) -> Result<bool, Fail> {
-    store_all(&mut fs, case)?;
+fn is_as_said<F: FileSystem + Drop>(alloc: Global, mut fs: F, case: &Case) -> Result<bool, Fault> {
+    for (path, parts) in case.stored {
+        store(alloc, &mut fs, path, parts)?;
+    }
     match opened(alloc, fs, case)? {
-        Some(mut files) => Ok(have_lengths(&mut files, case.files)?),
+        Some(mut files) => stand_alone(alloc, &mut files, case.files),
         None => Ok(false),
     }
 }
 
+fn is_so_in_memory(alloc: Global, case: &Case) -> Result<bool, Fault> {
+    is_as_said(alloc, MemoryFileSystem::new(alloc), case)
+}
+
 #[test]
-fn both_queues_are_opened_in_stages(rt: HostRuntime) -> Result<(), Fail> {
+fn both_queues_are_opened_in_stages(rt: HostRuntime) {
     for cases in &cases() {
         for case in *cases {
-            let files = MemoryFileSystem::new(rt.alloc());
-            assert!(rt; is_as_said(rt.alloc(), files, case)?, "{}", case.name);
+            assert_row(&rt, is_so_in_memory(rt.alloc(), case), case.name);
         }
     }
-    Ok(())
 }

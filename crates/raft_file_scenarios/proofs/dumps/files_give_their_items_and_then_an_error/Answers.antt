@@ -1,9 +1,0 @@
-use denote.Param.Send.{sendable}
-use Rattle.raft_memory.proofs.Sent.{memory_send, memory_sync}
-use Rattle.raft_file_scenarios.proofs.dumps.files_give_their_items_and_then_an_error.Goals as goal
-
-pub holds-requires-send-F : goal.holds-requires-send-F
-holds-requires-send-F g c = λ κs. search (sendable, memory_send) depth 20
-
-pub holds-requires-sync-F : goal.holds-requires-sync-F
-holds-requires-sync-F g c = λ κs. search (sendable, memory_send, memory_sync) depth 20
