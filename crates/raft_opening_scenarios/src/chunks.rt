@@ -1,9 +1,11 @@
 //! Log files of which each is a chunk of its own: what the newer ones leave of the older ones.
 
-use crate::openings::{MODES, Opened, WORKERS, open_by_workers, open_in_order};
+use crate::openings::{MODES, Opened, open_in_order};
+use crate::same::opens_alike;
 use raft_env::{FileSystem, FsFault};
 use raft_memory::MemoryFileSystem;
 use raft_rows::store_in;
+use raft_test_rows::{Faulty, Left};
 use std::alloc::Global;
 use std::process::Abort;
 use std::test::Fail;
@@ -69,49 +71,45 @@ fn store_both<F: FileSystem>(files: &mut F, case: &Case) -> Result<(), FsFault> 
     )
 }
 
+fn are_at(entries: &[(u64, Vec<u8>)], indexes: &[u64]) -> bool {
+    for (entry, index) in entries.iter().zip(indexes.iter()) {
+        if entry.0 != *index {
+            return false;
+        }
+    }
+    entries.len() == indexes.len()
+}
+
 // Whether these entries alone were found.
 fn has_found<F: Drop>(opened: &Opened<F>, indexes: &[u64]) -> bool {
     match &opened.answer {
         Ok(image) => match image.groups.as_slice() {
-            [group] => {
-                group.group == 1
-                    && group.entries.len() == indexes.len()
-                    && group
-                        .entries
-                        .iter()
-                        .zip(indexes.iter())
-                        .all(|(entry, index)| entry.0 == *index)
-            }
+            [group] => group.group == 1 && are_at(&group.entries, indexes),
             _ => false,
         },
         Err(_) => false,
     }
 }
 
-fn finds<R: Threads + Sync + Abort>(rt: &R, alloc: Global, case: &Case) -> Result<(), Fail> {
-    for mode in MODES {
-        let mut files = MemoryFileSystem::new(alloc);
-        store_both(&mut files, case)?;
-        let opened = open_in_order(alloc, mode, files)?;
+// The entries are found in order, and the same by workers.
+fn finds<R: Threads + Sync + Abort, F: Faulty>(
+    rt: &R,
+    alloc: Global,
+    mut files: F,
+    case: &Case,
+) -> Result<(), Fail> {
+    store_both(&mut files, case)?;
+    for mode in &MODES {
+        let opened = open_in_order(alloc, *mode, files.left(alloc, &Left::All)?)?;
         assert!(rt; has_found(&opened, case.found), "{}, {mode:?}", case.name);
-        for workers in WORKERS {
-            let mut files = MemoryFileSystem::new(alloc);
-            store_both(&mut files, case)?;
-            let opened = open_by_workers(rt, alloc, mode, workers, files)?;
-            assert!(rt;
-                has_found(&opened, case.found),
-                "{}, {mode:?}, {workers} workers",
-                case.name
-            );
-        }
     }
-    Ok(())
+    opens_alike(rt, alloc, &files, &Left::All, case.name)
 }
 
 #[test]
 fn chunks_are_found_as_in_order(rt: HostRuntime) -> Result<(), Fail> {
     for case in &CASES {
-        finds(&rt, rt.alloc(), case)?;
+        finds(&rt, rt.alloc(), MemoryFileSystem::new(rt.alloc()), case)?;
     }
     Ok(())
 }

@@ -47,7 +47,7 @@ fn open<F: FileSystem + Drop>(alloc: Global, files: F) -> Result<Engine<F>, Faul
 }
 
 fn key_of(alloc: Global, number: u64) -> Result<Vec<u8>, AllocError> {
-    format!(in alloc; "key {number}").map(String::into_bytes)
+    Ok(format!(in alloc; "key {number}")?.into_bytes())
 }
 
 fn put<F: FileSystem>(
@@ -66,7 +66,10 @@ fn put<F: FileSystem>(
 
 fn has<F: FileSystem>(alloc: Global, engine: &Engine<F>, number: u64) -> Result<bool, Fault> {
     let key = key_of(alloc, number)?;
-    Ok(engine.get(GROUP, &key)?.is_some_and(|value| value == key))
+    match engine.get(GROUP, &key)? {
+        Some(value) => Ok(value == key),
+        None => Ok(false),
+    }
 }
 
 // How many keys stand from 0 on, or nothing where one stands after a gap.
@@ -81,11 +84,6 @@ fn standing<F: FileSystem>(alloc: Global, engine: &Engine<F>) -> Result<Option<u
         }
     }
     Ok(Some(standing))
-}
-
-fn standing_in<F: FileSystem + Drop>(alloc: Global, files: F) -> Result<Option<u64>, Fault> {
-    let engine = open(alloc, files)?;
-    standing(alloc, &engine)
 }
 
 fn torn(
@@ -111,8 +109,71 @@ fn torn(
     Ok(bytes)
 }
 
-fn standing_at(rt: HostRuntime, folder: &str) -> Result<Option<u64>, Fail> {
-    Ok(standing_in(rt.alloc(), DiskFileSystem::open(rt, folder)?)?)
+fn log_bytes(rt: &HostRuntime, folder: &str) -> Result<Vec<u8>, Fail> {
+    let log = format!(in rt.alloc(); "{folder}/{LOG}")?;
+    let mut bytes = fs::read(rt, log.as_str())?;
+    bytes.truncate(LOG_LEN);
+    Ok(bytes)
+}
+
+/// What the log's bytes were at the last sync, and are after a put.
+#[derive(Drop)]
+struct Moment {
+    synced: Vec<u8>,
+    now: Vec<u8>,
+    reached: Reached,
+}
+
+/// What an engine has seen: the moments after its puts, and how many keys stand then.
+#[derive(Drop)]
+struct Seen {
+    moments: Vec<Moment>,
+    standing: Option<u64>,
+}
+
+// Puts keys, synced where that is asked, into a log that stands in this folder.
+fn see<F: FileSystem>(
+    rt: HostRuntime,
+    folder: &str,
+    engine: &mut Engine<F>,
+    puts: &[bool],
+) -> Result<Seen, Fail> {
+    let mut moments = Vec::new(rt.alloc());
+    let mut reached = Reached { put: 0, synced: 0 };
+    let mut last = log_bytes(&rt, folder)?;
+    for sync in puts {
+        put(rt.alloc(), engine, reached.put, *sync)?;
+        reached.put = reached.put.saturating_add(1);
+        let now = log_bytes(&rt, folder)?;
+        if *sync {
+            reached.synced = reached.put;
+            last = now.to_vec(rt.alloc())?;
+        }
+        moments.push(Moment {
+            synced: last.to_vec(rt.alloc())?,
+            now,
+            reached,
+        })?;
+    }
+    let standing = standing(rt.alloc(), engine)?;
+    Ok(Seen { moments, standing })
+}
+
+fn seen_over<F: FileSystem + Drop>(
+    rt: HostRuntime,
+    folder: &str,
+    files: F,
+    puts: &[bool],
+) -> Result<Seen, Fail> {
+    let mut engine = open(rt.alloc(), files)?;
+    let seen = see(rt, folder, &mut engine, puts);
+    engine.give_up();
+    seen
+}
+
+// The one call at a real folder, which is dear to prove.
+fn seen_in(rt: HostRuntime, folder: &str, puts: &[bool]) -> Result<Seen, Fail> {
+    seen_over(rt, folder, DiskFileSystem::open(rt, folder)?, puts)
 }
 
 // What an engine finds in a folder with this log, where a second one finds the same.
@@ -121,10 +182,14 @@ fn found(rt: HostRuntime, folder: &str, bytes: &[u8]) -> Result<Option<u64>, Fai
     let log = format!(in rt.alloc(); "{left}/{LOG}")?;
     fs::create_dir(&rt, left.as_str())?;
     fs::write(&rt, log.as_str(), bytes)?;
-    let first = standing_at(rt, left.as_str())?;
-    let second = standing_at(rt, left.as_str())?;
+    let first = seen_in(rt, left.as_str(), &[])?;
+    let second = seen_in(rt, left.as_str(), &[])?;
     fs::remove_dir_all(&rt, left.as_str())?;
-    Ok(if first == second { first } else { None })
+    Ok(if first.standing == second.standing {
+        first.standing
+    } else {
+        None
+    })
 }
 
 // Tries each of the crashes, and answers how many were wrong.
@@ -136,8 +201,8 @@ fn wrong_crashes(
     reached: Reached,
 ) -> Result<u64, Fail> {
     let mut wrong = 0;
-    for (kept, fill) in TORN {
-        let bytes = torn(rt.alloc(), synced, now, kept, fill)?;
+    for (kept, fill) in &TORN {
+        let bytes = torn(rt.alloc(), synced, now, *kept, *fill)?;
         let is_right = match found(rt, folder, &bytes)? {
             Some(standing) => reached.synced <= standing && standing <= reached.put,
             None => false,
@@ -150,55 +215,25 @@ fn wrong_crashes(
 }
 
 /// Crashes that were wrong, and those that are where the syncs don't count.
-#[derive(Clone, Copy, Debug, PartialEq, Eq)]
+#[derive(Clone, Copy)]
 struct Wrong {
     counted: u64,
     uncounted: u64,
 }
 
-fn log_bytes(rt: &HostRuntime, live: &str) -> Result<Vec<u8>, Fail> {
-    let log = format!(in rt.alloc(); "{live}/{LOG}")?;
-    let mut bytes = fs::read(rt, log.as_str())?;
-    bytes.truncate(LOG_LEN);
-    Ok(bytes)
-}
-
-fn crash_after_each<F: FileSystem>(
-    rt: HostRuntime,
-    folder: &str,
-    engine: &mut Engine<F>,
-) -> Result<Wrong, Fail> {
-    let live = format!(in rt.alloc(); "{folder}/live")?;
-    let mut synced = log_bytes(&rt, live.as_str())?;
-    let mut reached = Reached { put: 0, synced: 0 };
-    let mut counted = 0u64;
-    for sync in PUTS {
-        put(rt.alloc(), engine, reached.put, sync)?;
-        reached.put = reached.put.saturating_add(1);
-        let now = log_bytes(&rt, live.as_str())?;
-        if sync {
-            reached.synced = reached.put;
-            synced = now.to_vec(rt.alloc())?;
-        }
-        let wrong = wrong_crashes(rt, folder, &synced, &now, reached)?;
-        counted = counted.saturating_add(wrong);
-    }
-    let uncounted = wrong_crashes(rt, folder, &[], &log_bytes(&rt, live.as_str())?, reached)?;
-    Ok(Wrong { counted, uncounted })
-}
-
-fn crash_over<F: FileSystem + Drop>(
-    rt: HostRuntime,
-    folder: &str,
-    files: F,
-) -> Result<Wrong, Fail> {
-    let mut engine = open(rt.alloc(), files)?;
-    crash_after_each(rt, folder, &mut engine)
-}
-
 fn crashes_in(rt: HostRuntime, folder: &str) -> Result<Wrong, Fail> {
     let live = format!(in rt.alloc(); "{folder}/live")?;
-    crash_over(rt, folder, DiskFileSystem::open(rt, live.as_str())?)
+    let seen = seen_in(rt, live.as_str(), &PUTS)?;
+    let mut counted = 0u64;
+    for moment in &seen.moments {
+        let wrong = wrong_crashes(rt, folder, &moment.synced, &moment.now, moment.reached)?;
+        counted = counted.saturating_add(wrong);
+    }
+    let uncounted = match seen.moments.last() {
+        Some(last) => wrong_crashes(rt, folder, &[], &last.now, last.reached)?,
+        None => 0,
+    };
+    Ok(Wrong { counted, uncounted })
 }
 
 #[test]
@@ -206,12 +241,7 @@ fn synced_keys_are_found_after_crashes(rt: HostRuntime) -> Result<(), Fail> {
     let folder = temp_folder(&rt, "crashes")?;
     let wrong = crashes_in(rt, folder.as_str());
     let removed = fs::remove_dir_all(&rt, folder.as_str());
-    assert_eq!(rt;
-        wrong?,
-        Wrong {
-            counted: 0,
-            uncounted: 5
-        }
-    );
+    let Wrong { counted, uncounted } = wrong?;
+    assert!(rt; counted == 0 && uncounted == 5, "{counted} wrong, {uncounted} without syncs");
     Ok(removed?)
 }

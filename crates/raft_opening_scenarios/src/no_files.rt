@@ -4,22 +4,31 @@ use raft_env::FileSystem;
 use raft_listeners::NoListeners;
 use raft_memory::MemoryFileSystem;
 use raft_records::{Fault, Fresh};
-use raft_test_rows::{Config, Engine};
+use raft_test_rows::{Config, Engine, Refused};
 use std::alloc::Global;
 use std::test::Fail;
 use std::thread::Threads;
 
-fn have_no_group<F: FileSystem>(alone: &Engine<F>, heard: &Engine<F>, over: &Engine<F>) -> bool {
-    alone.is_empty() && heard.is_empty() && over.is_empty()
+fn is_empty<F: FileSystem + Drop>(opening: Result<Engine<F>, Refused<F>>) -> Result<bool, Fault> {
+    match opening {
+        Ok(engine) => {
+            let is_empty = engine.is_empty();
+            engine.give_up();
+            Ok(is_empty)
+        }
+        Err(refused) => Err(refused.fault),
+    }
 }
 
 fn are_empty<R: Threads + Sync>(rt: &R, alloc: Global) -> Result<bool, Fault> {
-    let alone = Engine::open(rt, alloc, Config::fresh(alloc))?;
+    let alone = is_empty(Engine::open(rt, alloc, Config::fresh(alloc)));
     let mut nobody = NoListeners::new();
-    let heard = Engine::open_with_listeners(rt, alloc, Config::fresh(alloc), &mut nobody)?;
+    let opened = Engine::open_with_listeners(rt, alloc, Config::fresh(alloc), &mut nobody);
+    let heard = is_empty(opened);
     let files = MemoryFileSystem::new(alloc);
-    let over = Engine::open_with_file_system(rt, alloc, Config::fresh(alloc), files)?;
-    Ok(have_no_group(&alone, &heard, &over))
+    let over = is_empty(Engine::open_with_file_system(rt, alloc, Config::fresh(alloc), files));
+    let (alone, heard, over) = (alone?, heard?, over?);
+    Ok(alone && heard && over)
 }
 
 #[test]

@@ -2,10 +2,11 @@
 
 ghost use Rattle.std.specs.Prelude.{◌<◌};
 
-use crate::openings::{ABSOLUTE, ANY, MODES, TAIL};
-use crate::stored::{ALL, HEADER_2, THREE, make, store};
-use raft_env::{FileSystem, FsFault, Permission};
+use crate::openings::{ABSOLUTE, ANY, MODES, TAIL, break_byte, tell};
+use crate::stored::{ALL, HEADER_2, THREE, make};
+use raft_env::{FileSystem, FsFault};
 use raft_memory::MemoryFileSystem;
+use raft_rows::store;
 use raft_test_rows::{EMPTY, Faulty, Held, RecoveryMode, State};
 use std::alloc::{AllocError, Global};
 use std::test::Fail;
@@ -54,13 +55,6 @@ static PLACES: [Places; 4] = [
     },
 ];
 
-// No file has this byte.
-fn break_byte<F: FileSystem>(files: &mut F, path: &str, at: usize) -> Result<(), FsFault> {
-    let handle = files.open(path, Permission::ReadWrite)?;
-    let mut writer = files.new_writer(&handle)?;
-    files.write(&mut writer, at, &[0xa5])
-}
-
 // What is found of three files, the one of this place in the list broken.
 fn found_without(mode: RecoveryMode, file: usize) -> Result<State, u8>
     requires { file < 3 }
@@ -83,7 +77,7 @@ fn is_broken_so<F: Faulty>(
     requires { file < 3 }
 {
     held.renew(alloc);
-    if make(alloc, held, THREE).is_none() {
+    if make(held, THREE).is_none() {
         return false;
     }
     let is_changed = match held.files() {
@@ -98,14 +92,12 @@ fn is_broken_so<F: Faulty>(
     is_changed && held.open(alloc, mode) && held.has_come_to(&wanted)
 }
 
-// The places of which one breaks another file than it should, and that place.
-fn wrong_place<F: Faulty>(alloc: Global, files: F) -> Option<(&'static str, usize)> {
-    let mut held = Held::Files(files);
+fn wrong_byte<F: Faulty>(alloc: Global, held: &mut Held<F>) -> Option<(&'static str, usize)> {
     for row in &PLACES {
         for at in row.first..row.end {
             for file in 0..WITHOUT.len() {
-                for mode in MODES {
-                    if !is_broken_so(alloc, &mut held, mode, file, at, row.is_broken) {
+                for mode in &MODES {
+                    if !is_broken_so(alloc, held, *mode, file, at, row.is_broken) {
                         return Some((row.name, at));
                     }
                 }
@@ -115,11 +107,17 @@ fn wrong_place<F: Faulty>(alloc: Global, files: F) -> Option<(&'static str, usiz
     None
 }
 
+// The places of which one breaks another file than it should, and that place.
+fn wrong_place<F: Faulty>(alloc: Global, files: F) -> Option<(&'static str, usize)> {
+    let mut held = Held::Files(files);
+    let wrong = wrong_byte(alloc, &mut held);
+    held.into_files();
+    wrong
+}
+
 #[test]
 fn each_broken_byte_is_met(rt: HostRuntime) -> Result<(), Fail> {
-    let files = MemoryFileSystem::new(rt.alloc());
-    assert_eq!(rt; wrong_place(rt.alloc(), files), None);
-    Ok(())
+    tell(wrong_place(rt.alloc(), MemoryFileSystem::new(rt.alloc())))
 }
 
 /// Files of bytes that no engine wrote, and what openings of them find.
@@ -196,12 +194,7 @@ fn store_noise<F: FileSystem>(
     let mut seed = len as u64;
     for path in row.paths {
         seed = seed.wrapping_add(1_000);
-        store(
-            alloc,
-            files,
-            path,
-            &[row.front, &bytes_from(alloc, seed, len)?],
-        )?;
+        store(files, path, &[row.front, &bytes_from(alloc, seed, len)?])?;
     }
     Ok(())
 }
@@ -228,13 +221,11 @@ fn is_found<F: Faulty>(
     is_opened
 }
 
-// The files of which an opening finds something else, and how long their bytes are.
-fn wrong_noise<F: Faulty>(alloc: Global, files: F) -> Option<(&'static str, usize)> {
-    let mut held = Held::Files(files);
+fn wrong_length<F: Faulty>(alloc: Global, held: &mut Held<F>) -> Option<(&'static str, usize)> {
     for row in &NOISE {
         for len in 1..LENGTHS {
             for (mode, wanted) in row.found {
-                if !is_found(alloc, &mut held, row, len, *mode, wanted) {
+                if !is_found(alloc, held, row, len, *mode, wanted) {
                     return Some((row.name, len));
                 }
             }
@@ -243,9 +234,15 @@ fn wrong_noise<F: Faulty>(alloc: Global, files: F) -> Option<(&'static str, usiz
     None
 }
 
+// The files of which an opening finds something else, and how long their bytes are.
+fn wrong_noise<F: Faulty>(alloc: Global, files: F) -> Option<(&'static str, usize)> {
+    let mut held = Held::Files(files);
+    let wrong = wrong_length(alloc, &mut held);
+    held.into_files();
+    wrong
+}
+
 #[test]
 fn bytes_that_no_engine_wrote_are_cut_or_refused(rt: HostRuntime) -> Result<(), Fail> {
-    let files = MemoryFileSystem::new(rt.alloc());
-    assert_eq!(rt; wrong_noise(rt.alloc(), files), None);
-    Ok(())
+    tell(wrong_noise(rt.alloc(), MemoryFileSystem::new(rt.alloc())))
 }

@@ -1,11 +1,9 @@
 //! An opening of files in memory, in order or by workers, and what the files are then.
 
 use raft_env::{FileSystem, FsFault, Permission};
-use raft_memory::MemoryFileSystem;
 use raft_records::Fault;
 use raft_test_rows::{
-    Config, Engine, Image, Left, MAX_FILES, Plan, RecoveryMode, Refused, choices_of, ops_of, run,
-    settings,
+    Config, Engine, Image, Left, Plan, RecoveryMode, Refused, ops_of, run, settings,
 };
 use std::alloc::{AllocError, Global};
 use std::test::Fail;
@@ -21,6 +19,17 @@ pub(crate) const MODES: [RecoveryMode; 3] = [ABSOLUTE, TAIL, ANY];
 
 /// So many workers read the files.
 pub(crate) const WORKERS: [usize; 4] = [1, 2, 3, 8];
+
+/// The row and the place in it at which something is wrong, if there is one.
+pub(crate) fn tell(wrong: Option<(&'static str, usize)>) -> Result<(), Fail> {
+    match wrong {
+        None => Ok(()),
+        Some((name, place)) => Err(Fail::new(format_args!("{name}, {place}"))),
+    }
+}
+
+/// What a crash may leave of each log file.
+pub(crate) static LEFTS: [Left; 3] = [Left::All, Left::Synced, Left::Torn(7, 255)];
 
 /// What an opening finds, or why it fails, and the files after it.
 #[derive(Drop)]
@@ -89,23 +98,18 @@ pub(crate) fn refusal_by_workers<R: Threads + Sync, F: FileSystem + Drop>(
     }
 }
 
-fn read_all<F: FileSystem>(
+/// The bytes of a file.
+pub(crate) fn bytes_of<F: FileSystem>(
+    alloc: Global,
     files: &mut F,
-    handle: &F::Handle,
-    bytes: &mut [u8],
-) -> Result<usize, FsFault> {
-    let mut reader = files.new_reader(handle)?;
-    let read = files.read(&mut reader, 0, bytes);
-    files.end_reader(reader);
-    read
-}
-
-fn bytes_of<F: FileSystem>(alloc: Global, files: &mut F, name: &str) -> Result<Vec<u8>, FsFault> {
-    let mut path = String::from_str(alloc, "raft/")?;
-    path.push_str(name)?;
-    let handle = files.open(path.as_str(), Permission::ReadOnly)?;
+    path: &str,
+) -> Result<Vec<u8>, FsFault> {
+    let handle = files.open(path, Permission::ReadOnly)?;
     let mut bytes = vec![in alloc; 0; files.file_size(&handle)?]?;
-    read_all(files, &handle, &mut bytes)?;
+    let mut reader = files.new_reader(&handle)?;
+    let read = files.read(&mut reader, 0, &mut bytes);
+    files.end_reader(reader);
+    bytes.truncate(read?);
     Ok(bytes)
 }
 
@@ -118,13 +122,14 @@ pub(crate) fn are_same_files<F: FileSystem>(
     let names = one.list("raft")?;
     let mut are_same = names == other.list("raft")?;
     for name in &names {
-        are_same = are_same
-            && bytes_of(alloc, one, name.as_str())? == bytes_of(alloc, other, name.as_str())?;
+        let path = format!(in alloc; "raft/{}", name.as_str())?;
+        let bytes = bytes_of(alloc, one, path.as_str())?;
+        are_same = are_same && bytes == bytes_of(alloc, other, path.as_str())?;
     }
     Ok(are_same)
 }
 
-/// Writes another byte at this place of a file.
+/// Writes a byte at this place of a file that none of the tests' files has there.
 pub(crate) fn break_byte<F: FileSystem>(
     files: &mut F,
     path: &str,
@@ -144,18 +149,11 @@ pub(crate) fn written<F: FileSystem + Drop>(
     let ops = ops_of(alloc, plans)?;
     match Engine::open_in_order(alloc, settings(alloc)?, files) {
         Ok(mut engine) => {
-            run(alloc, &mut engine, &ops)?;
-            Ok(engine.give_up())
+            let ran = run(alloc, &mut engine, &ops);
+            let files = engine.give_up();
+            ran?;
+            Ok(files)
         }
         Err(refused) => Ok(refused.file_system),
     }
-}
-
-/// Other files, with what a crash now leaves of these.
-pub(crate) fn left(
-    alloc: Global,
-    files: &MemoryFileSystem,
-    left: &Left,
-) -> Result<MemoryFileSystem, Fail> {
-    Ok(files.crash(&choices_of(alloc, left, MAX_FILES)?)?)
 }

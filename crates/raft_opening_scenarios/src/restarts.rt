@@ -1,6 +1,6 @@
 //! Openings of several log files that stop, or in which one call fails, and the next one.
 
-use crate::openings::{ABSOLUTE, ANY, TAIL};
+use crate::openings::{ABSOLUTE, ANY, TAIL, tell};
 use crate::stored::{
     ALL, BROKEN_2, HEADER_2, HEADER_MOVED, PUT_1, PUT_2, PUT_3, Stored, THREE, have, make,
 };
@@ -72,25 +72,15 @@ fn is_refusal(fault: &Fault) -> bool {
     }
 }
 
-// Whether the files that an opening refused are as they were, and the next opening finds all.
-fn is_untouched<F: Faulty>(
-    alloc: Global,
-    held: &mut Held<F>,
-    mode: RecoveryMode,
-    count: usize,
-) -> bool {
-    have(alloc, held, THREE, count) && held.open(alloc, mode) && held.has_come_to(&Ok(ALL))
-}
-
-// An opening of whole files that a call fails changes nothing: whether it failed, or nothing where
-// that is wrong.
+// An opening of whole files that a call fails changes nothing, and the next one finds all: whether it
+// failed, or nothing where that is wrong.
 fn cuts_nothing<F: Faulty>(
     alloc: Global,
     held: &mut Held<F>,
     mode: RecoveryMode,
     failing: Failing,
 ) -> Option<bool> {
-    let count = make(alloc, held, THREE)?;
+    let count = make(held, THREE)?;
     if !held.fail(failing) || !held.open(alloc, mode) {
         return None;
     }
@@ -98,24 +88,12 @@ fn cuts_nothing<F: Faulty>(
         Some(fault) => is_refusal(fault),
         None => return Some(false),
     };
-    if is_right && is_untouched(alloc, held, mode, count) {
+    let is_untouched = is_right && have(alloc, held, THREE, count);
+    if is_untouched && held.open(alloc, mode) && held.has_come_to(&Ok(ALL)) {
         Some(true)
     } else {
         None
     }
-}
-
-// Whether a call was refused since the files were made.
-fn is_met<F: Faulty>(held: &mut Held<F>) -> bool {
-    match held.files() {
-        Some(files) => files.refusals() > 0,
-        None => false,
-    }
-}
-
-// Whether broken files are made, and a crash leaves them as they are.
-fn breaks<F: Faulty>(alloc: Global, held: &mut Held<F>) -> bool {
-    make(alloc, held, BROKEN).is_some() && held.crash(alloc, &Left::All)
 }
 
 // After a crash of broken files, an opening with failing calls and another crash the rest is found:
@@ -127,11 +105,15 @@ fn finds_rest<F: Faulty>(
     failing: Failing,
     left: &Left,
 ) -> Option<bool> {
-    if !breaks(alloc, held) || !held.fail(failing) || !held.open(alloc, mode) {
+    let is_broken = make(held, BROKEN).is_some() && held.crash(alloc, &Left::All);
+    if !is_broken || !held.fail(failing) || !held.open(alloc, mode) {
         return None;
     }
     held.give_up();
-    let is_refused = is_met(held);
+    let is_refused = match held.files() {
+        Some(files) => files.refusals() > 0,
+        None => false,
+    };
     if held.crash(alloc, left) && held.open(alloc, mode) && held.has_come_to(&Ok(WITHOUT_2)) {
         Some(is_refused)
     } else {
@@ -139,23 +121,10 @@ fn finds_rest<F: Faulty>(
     }
 }
 
-// Whether the nth call failed, or nothing where something is wrong.
-fn failed<F: Faulty>(
-    alloc: Global,
-    held: &mut Held<F>,
-    calls: &Calls,
-    nth: u64,
-    left: &Option<Left>,
-) -> Option<bool> {
-    let Calls(_, call, mode, _) = calls;
-    let failing = match call {
-        Some(call) => Failing::Nth(*call, nth, IoKind::Other),
+fn failing_of(calls: &Calls, nth: u64) -> Failing {
+    match calls.1 {
+        Some(call) => Failing::Nth(call, nth, IoKind::Other),
         None => Failing::From(nth),
-    };
-    held.renew(alloc);
-    match left {
-        Some(left) => finds_rest(alloc, held, *mode, failing, left),
-        None => cuts_nothing(alloc, held, *mode, failing),
     }
 }
 
@@ -168,11 +137,34 @@ fn last_failed<F: Faulty>(
 ) -> Option<u64> {
     let mut last = 0;
     for nth in 1..MAX_CALLS {
-        if failed(alloc, held, calls, nth, left)? {
+        let failing = failing_of(calls, nth);
+        held.renew(alloc);
+        let failed = match left {
+            Some(left) => finds_rest(alloc, held, calls.2, failing, left)?,
+            None => cuts_nothing(alloc, held, calls.2, failing)?,
+        };
+        if failed {
             last = nth;
         }
     }
     Some(last)
+}
+
+fn wrong_in<F: Faulty>(
+    alloc: Global,
+    held: &mut Held<F>,
+    calls: &'static [Calls],
+    lefts: &'static [Option<Left>],
+) -> Option<(&'static str, usize)> {
+    for (place, left) in lefts.iter().enumerate() {
+        for calls in calls {
+            match last_failed(alloc, held, calls, left) {
+                Some(last) if calls.3 <= last && last.saturating_add(1) < MAX_CALLS => {}
+                _ => return Some((calls.0, place)),
+            }
+        }
+    }
+    None
 }
 
 // The first calls, and the place of what a crash leaves, at which something is wrong, or that are
@@ -184,27 +176,19 @@ fn wrong_call<F: Faulty>(
     lefts: &'static [Option<Left>],
 ) -> Option<(&'static str, usize)> {
     let mut held = Held::Files(files);
-    for (place, left) in lefts.iter().enumerate() {
-        for calls in calls {
-            match last_failed(alloc, &mut held, calls, left) {
-                Some(last) if calls.3 <= last && last.saturating_add(1) < MAX_CALLS => {}
-                _ => return Some((calls.0, place)),
-            }
-        }
-    }
-    None
+    let wrong = wrong_in(alloc, &mut held, calls, lefts);
+    held.into_files();
+    wrong
 }
 
 #[test]
 fn refused_read_cuts_nothing(rt: HostRuntime) -> Result<(), Fail> {
     let files = MemoryFileSystem::new(rt.alloc());
-    assert_eq!(rt; wrong_call(rt.alloc(), files, &READS, &WHOLE), None);
-    Ok(())
+    tell(wrong_call(rt.alloc(), files, &READS, &WHOLE))
 }
 
 #[test]
 fn an_opening_may_stop_anywhere(rt: HostRuntime) -> Result<(), Fail> {
     let files = MemoryFileSystem::new(rt.alloc());
-    assert_eq!(rt; wrong_call(rt.alloc(), files, &CALLS, &LEFT), None);
-    Ok(())
+    tell(wrong_call(rt.alloc(), files, &CALLS, &LEFT))
 }

@@ -1,13 +1,13 @@
 //! Workers find, cut and refuse what an opening in order does.
 
 use crate::openings::{
-    ANY, MODES, WORKERS, are_same_files, break_byte, left, open_by_workers, open_in_order,
+    ANY, LEFTS, MODES, WORKERS, are_same_files, break_byte, open_by_workers, open_in_order,
     refusal_by_workers, written,
 };
-use raft_env::{FileSystem, IoKind};
+use raft_env::IoKind;
 use raft_memory::{FsCall, MemoryFileSystem};
 use raft_records::Fault;
-use raft_test_rows::{Change, EXPIRED, Left, OPERATIONS, PURGES, Plan};
+use raft_test_rows::{Change, EXPIRED, Failing, Faulty, Left, OPERATIONS, PURGES, Plan};
 use std::alloc::Global;
 use std::process::Abort;
 use std::test::Fail;
@@ -84,6 +84,9 @@ static FILLED: [Filled; 4] = [
     },
 ];
 
+/// More reads than an opening makes.
+const MAX_READS: u64 = 60;
+
 /// From these changes on none is done, or all are.
 const STOPS: [u64; 3] = [21, 47, u64::MAX];
 
@@ -138,29 +141,40 @@ static BROKEN: [Broken; 8] = [
     },
 ];
 
-// In each mode, and for each number of workers, the image, the fault and the files are those of an opening in order.
-fn opens_alike<R: Threads + Sync + Abort>(
+/// Of what a crash leaves so of the files, in each mode, and for each number of workers, the image or
+/// the fault and the files are those of an opening in order.
+pub(crate) fn opens_alike<R: Threads + Sync + Abort, F: Faulty>(
     rt: &R,
     alloc: Global,
-    found: &MemoryFileSystem,
+    files: &F,
+    kept: &Left,
     name: &str,
 ) -> Result<(), Fail> {
-    for mode in MODES {
-        let mut wanted = open_in_order(alloc, mode, left(alloc, found, &Left::All)?)?;
-        for workers in WORKERS {
-            let files = left(alloc, found, &Left::All)?;
-            let mut opened = open_by_workers(rt, alloc, mode, workers, files)?;
-            assert!(rt;
-                opened.answer == wanted.answer,
-                "{name}, {mode:?}, {workers} workers: {:?}, not {:?}",
-                opened.answer,
-                wanted.answer
-            );
-            assert!(rt;
-                are_same_files(alloc, &mut opened.files, &mut wanted.files)?,
-                "{name}, {mode:?}, {workers} workers"
-            );
+    for mode in &MODES {
+        let mut wanted = open_in_order(alloc, *mode, files.left(alloc, kept)?)?;
+        for workers in &WORKERS {
+            let files = files.left(alloc, kept)?;
+            let mut opened = open_by_workers(rt, alloc, *mode, *workers, files)?;
+            let is_alike = opened.answer == wanted.answer
+                && are_same_files(alloc, &mut opened.files, &mut wanted.files)?;
+            assert!(rt; is_alike, "{name}, {mode:?}, {workers} workers");
         }
+    }
+    Ok(())
+}
+
+// New files are filled up to a stop, and crash in three ways.
+fn fills_alike<R: Threads + Sync + Abort, F: Faulty>(
+    rt: &R,
+    alloc: Global,
+    mut files: F,
+    filled: &Filled,
+    stop: u64,
+) -> Result<(), Fail> {
+    files.fail(Failing::From(stop))?;
+    let files = written(alloc, filled.plans, files)?;
+    for kept in &LEFTS {
+        opens_alike(rt, alloc, &files, kept, filled.name)?;
     }
     Ok(())
 }
@@ -168,70 +182,92 @@ fn opens_alike<R: Threads + Sync + Abort>(
 #[test]
 fn workers_find_what_is_found_in_order(rt: HostRuntime) -> Result<(), Fail> {
     for filled in &FILLED {
-        for stop in STOPS {
-            let mut files = MemoryFileSystem::new(rt.alloc());
-            files.stop_at(stop);
-            let files = written(rt.alloc(), filled.plans, files)?;
-            for kept in [Left::All, Left::Synced, Left::Torn(7, 255)] {
-                let found = left(rt.alloc(), &files, &kept)?;
-                opens_alike(&rt, rt.alloc(), &found, filled.name)?;
-            }
+        for stop in &STOPS {
+            let files = MemoryFileSystem::new(rt.alloc());
+            fills_alike(&rt, rt.alloc(), files, filled, *stop)?;
         }
+    }
+    Ok(())
+}
+
+fn break_alike<R: Threads + Sync + Abort, F: Faulty>(
+    rt: &R,
+    alloc: Global,
+    files: F,
+) -> Result<(), Fail> {
+    let files = written(alloc, &MANY, files)?;
+    for broken in &BROKEN {
+        let mut found = files.left(alloc, &Left::All)?;
+        for (path, at) in broken.bytes {
+            break_byte(&mut found, path, *at)?;
+        }
+        opens_alike(rt, alloc, &found, &Left::All, broken.name)?;
     }
     Ok(())
 }
 
 #[test]
 fn workers_cut_and_refuse_what_is_broken(rt: HostRuntime) -> Result<(), Fail> {
-    let files = written(rt.alloc(), &MANY, MemoryFileSystem::new(rt.alloc()))?;
-    for broken in &BROKEN {
-        let mut found = left(rt.alloc(), &files, &Left::All)?;
-        for (path, at) in broken.bytes {
-            break_byte(&mut found, path, *at)?;
-        }
-        opens_alike(&rt, rt.alloc(), &found, broken.name)?;
-    }
-    Ok(())
+    break_alike(&rt, rt.alloc(), MemoryFileSystem::new(rt.alloc()))
 }
 
-// With the nth read failing: whether there were so many. The opening changes no file then.
-fn refuse_read<R: Threads + Sync + Abort>(
+// With the nth read failing: whether there were so many, or nothing where the opening doesn't fail by it or changes a
+// file.
+fn refuse_read<R: Threads + Sync, F: Faulty>(
     rt: &R,
     alloc: Global,
-    found: &MemoryFileSystem,
+    found: &F,
     workers: usize,
     nth: u64,
-) -> Result<bool, Fail> {
-    let mut before = left(alloc, found, &Left::All)?;
-    let mut files = left(alloc, found, &Left::All)?;
-    files.refuse(FsCall::Read, nth, IoKind::Other)?;
+) -> Result<Option<bool>, Fail> {
+    let mut files = found.left(alloc, &Left::All)?;
+    files.fail(Failing::Nth(FsCall::Read, nth, IoKind::Other))?;
     let (fault, mut files) = refusal_by_workers(rt, alloc, ANY, workers, files)?;
-    if files.refusals() == 0 {
-        assert!(rt; fault.is_none(), "{workers} workers, read {nth}");
-        return Ok(false);
+    let is_met = files.refusals() > 0;
+    let is_right = match &fault {
+        Some(Fault::Io(IoKind::Other, _)) => {
+            let mut before = found.left(alloc, &Left::All)?;
+            is_met && are_same_files(alloc, &mut files, &mut before)?
+        }
+        Some(_) => false,
+        None => !is_met,
+    };
+    Ok(if is_right { Some(is_met) } else { None })
+}
+
+// The first read that doesn't come, or after which something is wrong, and whether it is the former.
+fn first_missing<R: Threads + Sync, F: Faulty>(
+    rt: &R,
+    alloc: Global,
+    found: &F,
+    workers: usize,
+) -> Result<(u64, bool), Fail> {
+    for nth in 1..MAX_READS {
+        match refuse_read(rt, alloc, found, workers, nth)? {
+            Some(true) => {}
+            Some(false) => return Ok((nth, true)),
+            None => return Ok((nth, false)),
+        }
     }
-    assert!(rt;
-        matches!(fault, Some(Fault::Io(IoKind::Other, _))),
-        "{workers} workers, read {nth}"
-    );
-    assert!(rt;
-        are_same_files(alloc, &mut files, &mut before)?,
-        "{workers} workers, read {nth}"
-    );
-    Ok(true)
+    Ok((MAX_READS, false))
+}
+
+fn refuse_reads<R: Threads + Sync + Abort, F: Faulty>(
+    rt: &R,
+    alloc: Global,
+    files: F,
+) -> Result<(), Fail> {
+    let mut found = written(alloc, &MANY, files)?;
+    // The last file would be cut.
+    break_byte(&mut found, LOG_8, 90)?;
+    for workers in &WORKERS {
+        let (nth, is_missing) = first_missing(rt, alloc, &found, *workers)?;
+        assert!(rt; is_missing, "{workers} workers, read {nth}");
+    }
+    Ok(())
 }
 
 #[test]
 fn refused_reads_of_workers_change_nothing(rt: HostRuntime) -> Result<(), Fail> {
-    let mut found = written(rt.alloc(), &MANY, MemoryFileSystem::new(rt.alloc()))?;
-    // The last file would be cut.
-    break_byte(&mut found, LOG_8, 90)?;
-    for workers in WORKERS {
-        let mut met = true;
-        for nth in 1..60 {
-            met = met && refuse_read(&rt, rt.alloc(), &found, workers, nth)?;
-        }
-        assert!(&rt; !met);
-    }
-    Ok(())
+    refuse_reads(&rt, rt.alloc(), MemoryFileSystem::new(rt.alloc()))
 }

@@ -1,8 +1,10 @@
 //! Three log files as their bytes, part by part.
 
-use raft_env::{FileSystem, FsFault, Permission};
+use crate::openings::bytes_of;
+use raft_env::{FileSystem, FsFault};
+use raft_rows::store;
 use raft_test_rows::{EMPTY, Faulty, Held, State};
-use std::alloc::{AllocError, Global};
+use std::alloc::Global;
 
 pub(crate) const HEADER_2: &[u8] =
     b"RAFT-LOG-FILE-HEADER-9986AB3E47F320B394C8E84916EB0ED5\0\0\0\0\0\0\0\x02\0\0\0\0\0\0\0\0";
@@ -44,38 +46,6 @@ pub(crate) const ALL: State = State {
     ..EMPTY
 };
 
-fn joined(alloc: Global, parts: &[&[u8]]) -> Result<Vec<u8>, AllocError> {
-    let mut bytes = Vec::new(alloc);
-    for part in parts {
-        bytes.extend_from_slice(part)?;
-    }
-    Ok(bytes)
-}
-
-/// Makes a file of these parts.
-pub(crate) fn store<F: FileSystem>(
-    alloc: Global,
-    files: &mut F,
-    path: &str,
-    parts: &[&[u8]],
-) -> Result<(), FsFault> {
-    let bytes = joined(alloc, parts)?;
-    let handle = files.create(path)?;
-    let mut writer = files.new_writer(&handle)?;
-    files.write(&mut writer, 0, &bytes)
-}
-
-fn read_all<F: FileSystem>(
-    files: &mut F,
-    handle: &F::Handle,
-    bytes: &mut [u8],
-) -> Result<usize, FsFault> {
-    let mut reader = files.new_reader(handle)?;
-    let read = files.read(&mut reader, 0, bytes);
-    files.end_reader(reader);
-    read
-}
-
 fn is_joined(bytes: &[u8], parts: &[&[u8]]) -> bool {
     let mut rest = bytes;
     for part in parts {
@@ -87,18 +57,6 @@ fn is_joined(bytes: &[u8], parts: &[&[u8]]) -> bool {
     rest.is_empty()
 }
 
-fn is_stored<F: FileSystem>(
-    alloc: Global,
-    files: &mut F,
-    path: &str,
-    parts: &[&[u8]],
-) -> Result<bool, FsFault> {
-    let handle = files.open(path, Permission::ReadOnly)?;
-    let size = files.file_size(&handle)?;
-    let mut bytes = vec![in alloc; 0; size]?;
-    Ok(read_all(files, &handle, &mut bytes)? == size && is_joined(&bytes, parts))
-}
-
 fn are_stored<F: FileSystem>(
     alloc: Global,
     files: &mut F,
@@ -106,33 +64,26 @@ fn are_stored<F: FileSystem>(
     count: usize,
 ) -> Result<bool, FsFault> {
     for (path, parts) in stored {
-        if !is_stored(alloc, files, path, parts)? {
+        let bytes = bytes_of(alloc, files, path)?;
+        if !is_joined(&bytes, parts) {
             return Ok(false);
         }
     }
     Ok(files.list("raft")?.len() == count)
 }
 
-fn store_all<F: FileSystem>(
-    alloc: Global,
-    files: &mut F,
-    stored: &[Stored],
-) -> Result<usize, FsFault> {
+fn store_all<F: FileSystem>(files: &mut F, stored: &[Stored]) -> Result<usize, FsFault> {
     files.make_dir("raft/more")?;
     for (path, parts) in stored {
-        store(alloc, files, path, parts)?;
+        store(files, path, parts)?;
     }
     Ok(files.list("raft")?.len())
 }
 
 /// Makes these files, and a folder beside them. Answers how many the log's folder has, if it is
 /// done.
-pub(crate) fn make<F: Faulty>(
-    alloc: Global,
-    held: &mut Held<F>,
-    stored: &[Stored],
-) -> Option<usize> {
-    match store_all(alloc, held.files()?, stored) {
+pub(crate) fn make<F: Faulty>(held: &mut Held<F>, stored: &[Stored]) -> Option<usize> {
+    match store_all(held.files()?, stored) {
         Ok(count) => Some(count),
         Err(_) => None,
     }

@@ -7,4 +7,4 @@ mod rows;
 
 pub use files::{FileParts, HEADER, NOTHING, PUT, PUTS, ZEROS, fill, store, store_in};
 pub use folders::temp_folder;
-pub use rows::{Row, first_wrong};
+pub use rows::{Row, first_wrong, rows_hold};

@@ -1,8 +1,8 @@
 //! What seats ask for, and what they are told.
 
-use raft_log_engine::{Fault, FileSystem, LogBatch};
+use raft_log_engine::{Fault, LogBatch};
 use raft_records::EntryIndex;
-use raft_shared::{Receipt, Reply, Seat, Shared};
+use raft_shared::Reply;
 use std::alloc::Global;
 
 pub(crate) enum Ask {
@@ -55,43 +55,13 @@ fn entries_of(alloc: Global, indexes: &[u64]) -> Result<LogBatch, Fault> {
     Ok(batch)
 }
 
-fn write<F: FileSystem>(
-    shared: &mut Shared<F>,
-    seat: &mut Seat,
-    batch: Result<LogBatch, Fault>,
-) -> Result<Receipt, Fault> {
-    match batch {
-        Ok(mut batch) => shared.write(seat, &mut batch, false),
-        Err(fault) => Err(fault),
-    }
-}
-
-fn write_once<F: FileSystem>(
-    alloc: Global,
-    shared: &mut Shared<F>,
-    seat: &mut Seat,
-    value: &[u8],
-    pairs: &[(u64, u64)],
-) -> Result<Receipt, Fault> {
-    let mut batch = put_of(alloc, 1, b"k", value)?;
-    shared.write_once(seat, &mut batch, pairs, true)
-}
-
-/// Writes without numbers aren't synced.
-pub(crate) fn ask_for<F: FileSystem>(
-    alloc: Global,
-    shared: &mut Shared<F>,
-    seat: &mut Seat,
-    ask: &Ask,
-) -> Result<Receipt, Fault> {
+/// The batch of a call that writes one.
+pub(crate) fn batch_of(alloc: Global, ask: &Ask) -> Result<LogBatch, Fault> {
     match ask {
-        Ask::Put(group, key, value) => write(shared, seat, put_of(alloc, *group, key, value)),
-        Ask::PutOnce(value, pairs) => write_once(alloc, shared, seat, value, pairs),
-        Ask::Entries(indexes) => write(shared, seat, entries_of(alloc, indexes)),
-        Ask::Get(group, key) => shared.get(seat, *group, key),
-        Ask::First(group) => shared.first_index(seat, *group),
-        Ask::Last(group) => shared.last_index(seat, *group),
-        Ask::Sync => shared.sync(seat),
+        Ask::Put(group, key, value) => put_of(alloc, *group, key, value),
+        Ask::PutOnce(value, _) => put_of(alloc, 1, b"k", value),
+        Ask::Entries(indexes) => entries_of(alloc, indexes),
+        _ => Ok(LogBatch::new(alloc)),
     }
 }
 

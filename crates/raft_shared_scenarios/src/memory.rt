@@ -3,9 +3,9 @@
 //! recorded nothing, and can be made again.
 
 use crate::asked::Ask;
-use crate::seated::{Faulty, Seated, keys_in, open, seat};
-use raft_log_engine::{Engine, Fault, FileSystem, MemoryFileSystem};
-use raft_shared::{Finished, Receipt, Reply};
+use crate::seated::{Ended, Faulty, Seated, begin, hand_over, last_keys};
+use raft_log_engine::{Fault, FileSystem, MemoryFileSystem};
+use raft_shared::{Receipt, Reply, Seat};
 use std::alloc::Global;
 use std::test::Fail;
 
@@ -17,12 +17,14 @@ static ASKED: [Ask; CALLS] = [Ask::Put(1, b"k", b"v"), Ask::Get(1, b"k"), Ask::L
 /// The code of a want of memory.
 const MEMORY: u8 = 12;
 
-/// What became of the calls.
+/// What became of a call.
 #[derive(Clone, Copy, PartialEq)]
 enum Made {
     Answered,
     /// The put was recorded, and refused for want of memory.
     Refused,
+    /// Memory was wanting.
+    Failed,
     /// A call was answered as none may be.
     Wrong,
 }
@@ -36,43 +38,45 @@ fn is_refused(reply: &Reply) -> bool {
     }
 }
 
-fn outcome_of(receipt: &Receipt, number: usize) -> Made {
-    if receipt.number != number {
-        Made::Wrong
-    } else if is_refused(&receipt.reply) {
-        Made::Refused
-    } else {
-        Made::Answered
-    }
-}
-
-// Makes a call, and once more where it fails, which for want of memory alone it may, and leaves the
-// seat as it was.
-fn made_once<F: FileSystem>(
-    alloc: Global,
-    seated: &mut Seated<F>,
-    ask: &Ask,
-    number: usize,
-) -> Made {
-    match seated.ask(alloc, 0, ask) {
-        Ok(receipt) => outcome_of(&receipt, number),
-        Err(code) if code == MEMORY && seated.receipts(0) == number => {
-            match seated.ask(alloc, 0, ask) {
-                Ok(receipt) => outcome_of(&receipt, number),
-                Err(_) => Made::Wrong,
+fn made_of(answer: Result<Receipt, Fault>, number: usize) -> Made {
+    match &answer {
+        Ok(receipt) => {
+            if receipt.number != number {
+                Made::Wrong
+            } else if is_refused(&receipt.reply) {
+                Made::Refused
+            } else {
+                Made::Answered
             }
         }
-        Err(_) => Made::Wrong,
+        Err(fault) => {
+            if fault.code() == MEMORY {
+                Made::Failed
+            } else {
+                Made::Wrong
+            }
+        }
     }
 }
 
-// What became of the put, where no other call is answered wrongly.
+fn have_receipts(seats: &[Seat], count: usize) -> bool {
+    match seats.first() {
+        Some(seat) => seat.receipts().len() == count,
+        None => false,
+    }
+}
+
+// What became of the put, where no other call is answered wrongly. A call is made once more where it
+// fails, which for want of memory alone it may, and leaves the seat as it was.
 fn put_made<F: FileSystem>(alloc: Global, seated: &mut Seated<F>) -> Made {
     let mut put = Made::Answered;
     for (number, ask) in ASKED.iter().enumerate() {
-        let made = made_once(alloc, seated, ask, number);
-        if made == Made::Wrong {
-            return made;
+        let mut made = made_of(seated.ask(alloc, 0, ask), number);
+        if made == Made::Failed && have_receipts(&seated.seats, number) {
+            made = made_of(seated.ask(alloc, 0, ask), number);
+        }
+        if made == Made::Failed || made == Made::Wrong {
+            return Made::Wrong;
         }
         if number == 0 {
             put = made;
@@ -83,38 +87,29 @@ fn put_made<F: FileSystem>(alloc: Global, seated: &mut Seated<F>) -> Made {
 
 // Whether the engine has what the put left: its value, or nothing where it was refused. Of one that
 // has failed for want of memory, or has none for its image, nothing is asked.
-fn has_put<F: FileSystem>(engine: &mut Engine<F>, put: Made) -> bool {
-    match keys_in(engine) {
+fn is_left(keys: Option<usize>, put: Made) -> bool {
+    match keys {
         Some(keys) => keys == if put == Made::Answered { 1 } else { 0 },
         None => true,
     }
 }
 
-// Whether the history has each call once, and the engine what the put left.
-fn ends_with<F: FileSystem + Drop>(seated: Seated<F>, put: Made) -> bool {
-    let Seated { shared, seats } = seated;
-    match shared.finish(seats) {
-        Ok(Finished { mut engine, trail }) => trail.len() == CALLS && has_put(&mut engine, put),
-        Err(_) => false,
-    }
-}
-
-fn are_recorded_once<F: FileSystem + Drop>(alloc: Global, mut seated: Seated<F>) -> bool {
-    let put = put_made(alloc, &mut seated);
-    put != Made::Wrong && ends_with(seated, put)
-}
-
-fn begin<F: Faulty>(alloc: Global) -> Result<Seated<F>, Fault> {
-    seat(alloc, open(alloc, F::fresh(alloc))?, CALLS, 1)
-}
-
 // Whether each call is recorded once, also where one of its requests for memory was refused, and the
 // engine has what they left; or there was no memory before the calls.
 fn holds<F: Faulty>(alloc: Global) -> bool {
-    match begin::<F>(alloc) {
-        Ok(seated) => are_recorded_once(alloc, seated),
-        Err(fault) => fault.code() == MEMORY,
-    }
+    let mut seated: Seated<F> = match begin(alloc, false, CALLS, 1) {
+        Ok(seated) => seated,
+        Err(fault) => return fault.code() == MEMORY,
+    };
+    let put = put_made(alloc, &mut seated);
+    let Ended {
+        engine,
+        trail,
+        refused,
+    } = hand_over(seated);
+    let keys = last_keys(engine);
+    let is_recorded = refused.is_none() && trail.len() == CALLS;
+    put != Made::Wrong && is_recorded && is_left(keys, put)
 }
 
 #[test]

@@ -2,9 +2,9 @@
 //! what there is at the end.
 
 use crate::asked::{Ask, Told, is_told};
-use crate::seated::{Faulty, Seated, keys_in, open, seat};
+use crate::seated::{Ended, Faulty, Seated, begin, end, hand_over, keys_in, open};
 use raft_log_engine::{Engine, Fault, FileSystem};
-use raft_shared::{Finished, Unfinished};
+use raft_shared::{Receipt, Recorded};
 use std::alloc::Global;
 use std::mem;
 
@@ -47,24 +47,25 @@ pub(crate) struct End {
     pub(crate) synced: Option<&'static [u8]>,
 }
 
-#[derive(Drop)]
-struct Ended<F: FileSystem> {
-    engine: Engine<F>,
-    calls: usize,
-    /// The code of the refusal, and how many seats came back.
-    refused: Option<(u8, usize)>,
+fn seat_of(step: &Step) -> usize {
+    match step {
+        Step::Answered(seat, _, _, _) | Step::Fails(seat, _, _) => *seat,
+    }
 }
 
-fn holds<F: FileSystem>(alloc: Global, seated: &mut Seated<F>, step: &Step) -> bool {
+fn ask_of(step: &Step) -> &Ask {
     match step {
-        Step::Answered(seat, ask, number, told) => match seated.ask(alloc, *seat, ask) {
-            Ok(receipt) => receipt.number == *number && is_told(told, &receipt.reply),
-            Err(_) => false,
-        },
-        Step::Fails(seat, ask, code) => match seated.ask(alloc, *seat, ask) {
-            Ok(_) => false,
-            Err(answered) => answered == *code,
-        },
+        Step::Answered(_, ask, _, _) | Step::Fails(_, ask, _) => ask,
+    }
+}
+
+fn is_so(step: &Step, answer: Result<Receipt, Fault>) -> bool {
+    match (step, &answer) {
+        (Step::Answered(_, _, number, told), Ok(receipt)) => {
+            receipt.number == *number && is_told(told, &receipt.reply)
+        }
+        (Step::Fails(_, _, code), Err(fault)) => fault.code() == *code,
+        _ => false,
     }
 }
 
@@ -75,19 +76,12 @@ fn wrong_step<F: FileSystem>(
     steps: &[Step],
 ) -> Option<usize> {
     for (place, step) in steps.iter().enumerate() {
-        if !holds(alloc, seated, step) {
+        let answer = seated.ask(alloc, seat_of(step), ask_of(step));
+        if !is_so(step, answer) {
             return Some(place);
         }
     }
     None
-}
-
-fn begin<F: Faulty>(alloc: Global, story: &Story) -> Result<Seated<F>, Fault> {
-    let mut engine: Engine<F> = open(alloc, F::fresh(alloc))?;
-    if story.is_sync_refused {
-        F::refuse_sync(&mut engine)?;
-    }
-    seat(alloc, engine, story.limit, story.seats)
 }
 
 // Leaves the seats that are handed over. Answers whether the calls of another engine's hold.
@@ -102,49 +96,17 @@ fn choose_seats<F: Faulty>(
             Ok(true)
         }
         Handed::OfOther(steps) => {
-            let mut other: Seated<F> = begin(alloc, story)?;
+            let mut other: Seated<F> = begin(
+                alloc,
+                story.is_sync_refused,
+                story.limit,
+                story.seats,
+            )?;
             let holds = wrong_step(alloc, &mut other, steps).is_none();
             mem::swap(&mut seated.seats, &mut other.seats);
+            end(other);
             Ok(holds)
         }
-    }
-}
-
-fn hand_over<F: FileSystem + Drop>(seated: Seated<F>) -> Ended<F> {
-    let Seated { shared, seats } = seated;
-    match shared.finish(seats) {
-        Ok(Finished { engine, trail }) => Ended {
-            engine,
-            calls: trail.len(),
-            refused: None,
-        },
-        Err(
-            Unfinished {
-                fault,
-                engine,
-                trail,
-                seats,
-            },
-        ) => Ended {
-            engine,
-            calls: trail.len(),
-            refused: Some((fault.code(), seats.len())),
-        },
-    }
-}
-
-// The value at the key k of group 1, once a crash has left what was synced.
-fn synced_value<F: Faulty>(alloc: Global, engine: Engine<F>) -> Result<Option<Vec<u8>>, Fault> {
-    let mut files = engine.give_up();
-    files.crash_to_synced()?;
-    open(alloc, files)?.get(1, b"k")
-}
-
-fn is_value(value: &Option<Vec<u8>>, wanted: Option<&[u8]>) -> bool {
-    match (value, wanted) {
-        (Some(value), Some(wanted)) => value.as_slice() == wanted,
-        (None, None) => true,
-        _ => false,
     }
 }
 
@@ -157,48 +119,64 @@ fn is_refusal(refused: Option<(u8, usize)>, wanted: Option<u8>, handed: usize) -
     }
 }
 
-fn ends_so<F: Faulty>(
-    alloc: Global,
-    ended: Ended<F>,
-    handed: usize,
-    wanted: &End,
-) -> Result<bool, Fault> {
-    let Ended {
-        mut engine,
-        calls,
-        refused,
-    } = ended;
-    let is_so = calls == wanted.calls
-        && is_refusal(refused, wanted.refusal, handed)
-        && keys_in(&mut engine) == wanted.keys;
-    let value = synced_value(alloc, engine)?;
-    Ok(is_so && is_value(&value, wanted.synced))
+fn is_trail(trail: Vec<Recorded>, count: usize) -> bool {
+    trail.len() == count
 }
 
-// The place of the first step that comes to something else; the end comes after all steps.
-fn wrong_place<F: Faulty>(alloc: Global, story: &Story) -> Result<Option<usize>, Fault> {
-    let mut seated: Seated<F> = begin(alloc, story)?;
-    if let Some(place) = wrong_step(alloc, &mut seated, story.steps) {
-        return Ok(Some(place));
+fn is_value(value: Option<Vec<u8>>, wanted: Option<&[u8]>) -> bool {
+    match (&value, wanted) {
+        (Some(value), Some(wanted)) => value.as_slice() == wanted,
+        (None, None) => true,
+        _ => false,
     }
-    let has_seats = choose_seats(alloc, &mut seated, story)?;
-    let handed = seated.seats.len();
-    if has_seats && ends_so(alloc, hand_over(seated), handed, &story.end)? {
-        Ok(None)
+}
+
+// Whether the engine has so many keys, and once a crash has left what was synced this value at the
+// key k of group 1.
+fn has_so<F: Faulty>(alloc: Global, mut engine: Engine<F>, wanted: &End) -> Result<bool, Fault> {
+    let keys = keys_in(&mut engine);
+    let mut files = engine.give_up();
+    files.crash_to_synced()?;
+    let found = open(alloc, files)?;
+    let value = found.get(1, b"k");
+    found.give_up();
+    Ok(is_value(value?, wanted.synced) && keys == wanted.keys)
+}
+
+// The place of the first step that comes to something else, or of the end where one of the other
+// engine does.
+fn played<F: Faulty>(
+    alloc: Global,
+    seated: &mut Seated<F>,
+    story: &Story,
+) -> Result<Option<usize>, Fault> {
+    let wrong = wrong_step(alloc, seated, story.steps);
+    if wrong.is_some() || choose_seats(alloc, seated, story)? {
+        Ok(wrong)
     } else {
         Ok(Some(story.steps.len()))
     }
 }
 
-/// The first story with a step that comes to something else, and the step's place.
-pub(crate) fn wrong_story<F: Faulty>(
-    alloc: Global,
-    stories: &'static [Story],
-) -> Result<Option<(&'static str, usize)>, Fault> {
-    for story in stories {
-        if let Some(place) = wrong_place::<F>(alloc, story)? {
-            return Ok(Some((story.name, place)));
-        }
+/// The place of the first step that comes to something else; the end comes after all steps.
+pub(crate) fn wrong_place<F: Faulty>(alloc: Global, story: &Story) -> Result<Option<usize>, Fault> {
+    let mut seated: Seated<F> = begin(alloc, story.is_sync_refused, story.limit, story.seats)?;
+    let played = played(alloc, &mut seated, story);
+    let handed = seated.seats.len();
+    let Ended {
+        engine,
+        trail,
+        refused,
+    } = hand_over(seated);
+    let has_so = has_so(alloc, engine, &story.end);
+    let wrong = played?;
+    if wrong.is_some() {
+        return Ok(wrong);
     }
-    Ok(None)
+    let is_trail = is_trail(trail, story.end.calls);
+    if has_so? && is_trail && is_refusal(refused, story.end.refusal, handed) {
+        Ok(None)
+    } else {
+        Ok(Some(story.steps.len()))
+    }
 }

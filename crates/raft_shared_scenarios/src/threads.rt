@@ -1,7 +1,9 @@
 //! Threads over one engine, with a history and without.
 
-use raft_log_engine::{Config, Engine, Fault, Fresh, LogBatch, MemoryFileSystem};
-use raft_shared::{Call, Finished, Recorded, Reply, Seat, Shared};
+use crate::asked::put_of;
+use crate::seated::{Ended, Seated, begin, hand_over, last_keys, open};
+use raft_log_engine::{Engine, Fault, FileSystem, MemoryFileSystem};
+use raft_shared::{Call, Recorded, Reply, Seat, Shared};
 use std::alloc::{AllocError, Global};
 use std::sync::{Arc, Mutex, Wait};
 use std::test::Fail;
@@ -30,29 +32,6 @@ const GROUPS: [u64; 4] = [1, 2, 3, 4];
 trait Crew: Threads + Wait + Copy + Send + 'static {}
 
 impl<R: Threads + Wait + Copy + Send + 'static> Crew for R {}
-
-fn put_of(alloc: Global, group: u64, key: &[u8], value: &[u8]) -> Result<LogBatch, Fault> {
-    let mut batch = LogBatch::new(alloc);
-    batch.put(group, key.to_vec(alloc)?, value.to_vec(alloc)?)?;
-    Ok(batch)
-}
-
-fn open(alloc: Global) -> Result<Engine<MemoryFileSystem>, Fault> {
-    let files = MemoryFileSystem::new(alloc);
-    Ok(Engine::open_in_order(alloc, Config::fresh(alloc), files)?)
-}
-
-fn share(alloc: Global) -> Result<Shared<MemoryFileSystem>, Fault> {
-    Shared::new(alloc, open(alloc)?, LIMIT).map_err(|refused| refused.fault)
-}
-
-fn take_seats(alloc: Global, shared: &mut Shared<MemoryFileSystem>) -> Result<Vec<Seat>, Fault> {
-    let mut seats = Vec::new(alloc);
-    for _ in 0..SEATS {
-        seats.push(shared.seat()?)?;
-    }
-    Ok(seats)
-}
 
 fn write(
     rt: &impl Wait,
@@ -95,31 +74,30 @@ fn join_writers<R: Threads>(
     Ok(seats)
 }
 
-// The seats, once each has made its writes in a thread of its own.
-fn written<R: Crew>(
-    rt: &R,
-    alloc: Global,
-    together: &Together,
-    seats: Vec<Seat>,
-) -> Result<Vec<Seat>, Fault> {
-    let writers = start_writers(rt, alloc, together, seats)?;
-    join_writers(rt, alloc, writers)
-}
-
-// The history that threads make.
+// The history that threads make, once each seat has made its writes in a thread of its own.
 fn history<R: Crew>(rt: &R, alloc: Global) -> Result<Option<Vec<Recorded>>, Fault> {
-    let mut shared = share(alloc)?;
-    let seats = take_seats(alloc, &mut shared)?;
+    let seated: Seated<MemoryFileSystem> = begin(alloc, false, LIMIT, SEATS)?;
+    let Seated { shared, seats } = seated;
     let together = Arc::new(alloc, Mutex::new(shared))?;
-    let seats = written(rt, alloc, &together, seats)?;
-    Ok(Arc::into_inner(together).and_then(|lock| finish(lock.into_inner(), seats)))
+    let writers = start_writers(rt, alloc, &together, seats)?;
+    let seats = join_writers(rt, alloc, writers)?;
+    match Arc::into_inner(together) {
+        Some(lock) => Ok(finish(lock.into_inner(), seats)),
+        None => Ok(None),
+    }
 }
 
 // The history, where each seat's receipts are its calls.
-fn finish(shared: Shared<MemoryFileSystem>, seats: Vec<Seat>) -> Option<Vec<Recorded>> {
-    match shared.finish(seats) {
-        Ok(Finished { trail, .. }) => Some(trail),
-        Err(_) => None,
+fn finish<F: FileSystem + Drop>(shared: Shared<F>, seats: Vec<Seat>) -> Option<Vec<Recorded>> {
+    let Ended {
+        engine,
+        trail,
+        refused,
+    } = hand_over(Seated { shared, seats });
+    engine.give_up();
+    match refused {
+        None => Some(trail),
+        Some(_) => None,
     }
 }
 
@@ -146,10 +124,11 @@ fn two_seats_one_history(rt: HostRuntime) -> Result<(), Fail> {
     let Some(trail) = history(&rt, rt.alloc())? else {
         return Err(Fail::new("sharing was not finished"));
     };
-    assert_eq!(rt; trail.len(), 20);
+    let mut are_of_each = trail.len() == 20;
     for seat in 0..SEATS {
-        assert_eq!(rt; writes_of(&trail, seat), 10);
+        are_of_each = are_of_each && writes_of(&trail, seat) == 10;
     }
+    assert!(rt; are_of_each);
     Ok(())
 }
 
@@ -173,7 +152,8 @@ fn start_putters<R: Crew>(
 ) -> Result<Vec<Putter>, AllocError> {
     let handle = *rt;
     let mut putters = Vec::new(alloc);
-    for group in GROUPS {
+    for group in &GROUPS {
+        let group = *group;
         let theirs = Arc::try_clone(together)?;
         putters.push(thread::spawn(rt, move || put(&handle, alloc, &theirs, group))?)?;
     }
@@ -187,30 +167,20 @@ fn join_putters<R: Threads>(rt: &R, putters: Vec<Putter>) -> Result<(), Fault> {
     Ok(())
 }
 
-// How many keys the groups hold, where the engine stands.
-fn keys_in(mut engine: Engine<MemoryFileSystem>) -> Option<usize> {
-    match engine.image() {
-        Ok(image) => {
-            let mut keys = 0usize;
-            for group in &image.groups {
-                keys = keys.saturating_add(group.pairs.len());
-            }
-            Some(keys)
-        }
-        Err(_) => None,
-    }
-}
-
 // How many keys an engine without a history has, once threads have put theirs.
 fn keys_put<R: Crew>(rt: &R, alloc: Global) -> Result<Option<usize>, Fault> {
-    let together = Arc::new(alloc, Mutex::new(open(alloc)?))?;
+    let engine = open(alloc, MemoryFileSystem::new(alloc))?;
+    let together = Arc::new(alloc, Mutex::new(engine))?;
     join_putters(rt, start_putters(rt, alloc, &together)?)?;
-    Ok(Arc::into_inner(together).and_then(|lock| keys_in(lock.into_inner())))
+    match Arc::into_inner(together) {
+        Some(lock) => Ok(last_keys(lock.into_inner())),
+        None => Ok(None),
+    }
 }
 
 /// Four threads that share an engine without a history put ten keys each: the image has forty.
 #[test]
 fn four_threads_one_engine(rt: HostRuntime) -> Result<(), Fail> {
-    assert_eq!(rt; keys_put(&rt, rt.alloc())?, Some(40));
+    assert!(rt; keys_put(&rt, rt.alloc())? == Some(40));
     Ok(())
 }

@@ -1,40 +1,14 @@
 //! What operations are answered where one call to the files fails, told from the operations done before.
 
 use raft_env::IoKind;
-use raft_memory::FsCall;
 use raft_records::Fault;
 use raft_test_rows::{
-    EMPTY, Op, Outcome, State, after, are_new, count_below, fault_of, is_done, value_of,
+    EMPTY, Left, Op, Outcome, State, after, are_new, count_below, fault_of, is_done, is_refusal,
+    value_of,
 };
-use std::process::Abort;
 
-pub(crate) const CALLS: [FsCall; 16] = [
-    FsCall::Create,
-    FsCall::Open,
-    FsCall::Delete,
-    FsCall::Rename,
-    FsCall::DeleteMetadata,
-    FsCall::NewReader,
-    FsCall::NewWriter,
-    FsCall::Write,
-    FsCall::Truncate,
-    FsCall::Allocate,
-    FsCall::Sync,
-    FsCall::FileSize,
-    FsCall::MakeDir,
-    FsCall::List,
-    FsCall::FreeSpace,
-    FsCall::Read,
-];
-
-/// Whether it is the failing call's. Where a purge finds no space, it is to be tried again.
-pub(crate) fn is_refusal(fault: &Fault, kind: IoKind) -> bool {
-    match fault {
-        Fault::Io(by, _) => *by == kind,
-        Fault::TryAgain => kind == IoKind::NoSpace,
-        _ => false,
-    }
-}
+/// What a crash may leave of each log file.
+pub(crate) static LEFTS: [Left; 3] = [Left::All, Left::Synced, Left::Torn(7, 255)];
 
 // A look-up, a compaction or a write that acts once tells, where it is answered, what the operations
 // done before it leave.
@@ -56,36 +30,45 @@ fn tells(state: State, op: &Op, outcome: &Outcome) -> bool {
     }
 }
 
+// Whether an answer may come in this state: by the failing call, or behind it by a failed engine.
+fn is_answer(state: State, op: &Op, outcome: &Outcome, kind: IoKind, refused: bool) -> bool {
+    match fault_of(outcome) {
+        Some(Fault::Failed) => refused,
+        Some(fault) => is_refusal(fault, kind) && !refused,
+        None => tells(state, op, outcome),
+    }
+}
+
 /// Each operation is answered as the ones done before it tell. One alone fails by the files, and those after it
-/// by a failed engine, if at all. Whether one fails.
-pub(crate) fn are_answers(rt: &impl Abort, ops: &[Op], outcomes: &[Outcome], kind: IoKind) -> bool {
+/// by a failed engine, if at all. Whether one fails, or nothing where an answer is wrong.
+pub(crate) fn failed_by(ops: &[Op], outcomes: &[Outcome], kind: IoKind) -> Option<bool> {
     let mut state = EMPTY;
     let mut refused = false;
     for (op, outcome) in ops.iter().zip(outcomes.iter()) {
-        assert!(rt; tells(state, op, outcome), "{outcome:?}");
-        match fault_of(outcome) {
-            Some(Fault::Failed) => {
-                assert!(rt; refused);
-            }
-            Some(fault) => {
-                assert!(rt; is_refusal(fault, kind) && !refused, "{fault:?}");
-                refused = true;
-            }
-            None => state = after(state, op),
+        if !is_answer(state, op, outcome, kind, refused) {
+            return None;
+        }
+        if is_done(outcome) {
+            state = after(state, op);
+        } else {
+            refused = true;
         }
     }
-    refused
+    Some(refused)
 }
 
-/// Up to the first failed one the outcomes are those that were wanted, but for what purges answer, which goes by how
-/// many files were begun.
-pub(crate) fn begin_as_wanted(rt: &impl Abort, outcomes: &[Outcome], wanted: &[Outcome]) {
+/// Whether the outcomes up to the first failed one are those that were wanted, but for what purges answer, which goes
+/// by how many files were begun.
+pub(crate) fn begin_as_wanted(outcomes: &[Outcome], wanted: &[Outcome]) -> bool {
     for (outcome, wanted) in outcomes.iter().zip(wanted.iter()) {
         if !is_done(outcome) {
-            return;
+            return true;
         }
-        if !matches!(outcome, Outcome::Dropped(_) | Outcome::ToCompact(_)) {
-            assert_eq!(rt; *outcome, *wanted);
+        let of_purge = matches!(outcome, Outcome::Dropped(_) | Outcome::ToCompact(_));
+        let is_as_wanted = of_purge || *outcome == *wanted;
+        if !is_as_wanted {
+            return false;
         }
     }
+    true
 }

@@ -1,6 +1,6 @@
 //! Forks in which a call of storage fails.
 
-use raft_env::{FileSystem, FsFault, IoKind};
+use raft_env::{FileSystem, IoKind};
 use raft_fork::{CopyDetails, fork};
 use raft_memory::{FsCall, MemoryFileSystem};
 use raft_records::{Fault, Fresh};
@@ -18,21 +18,17 @@ const SOURCE: [(&str, usize); 3] = [
 ];
 
 /// The settings of their log.
-pub(crate) const SETTINGS: &str = "dir = \"a\"\nenable-log-recycle = false\n";
-
-fn store_all<F: FileSystem>(alloc: Global, files: &mut F) -> Result<(), FsFault> {
-    for (path, len) in SOURCE {
-        store_in(files, "a", path, &[&vec![in alloc; 7; len]?])?;
-    }
-    Ok(())
-}
+const SETTINGS: &str = "dir = \"a\"\nenable-log-recycle = false\n";
 
 /// Makes these files.
 pub(crate) fn make_source<F: FileSystem>(alloc: Global, files: &mut F) -> Result<(), Fault> {
-    match store_all(alloc, files) {
-        Ok(()) => Ok(()),
-        Err(fault) => Err(fault.with_path(alloc, "a")),
+    for (path, len) in &SOURCE {
+        let bytes = vec![in alloc; 7; *len]?;
+        if let Err(fault) = store_in(files, "a", path, &[&bytes]) {
+            return Err(fault.with_path(alloc, "a"));
+        }
     }
+    Ok(())
 }
 
 /// A sort of calls, and how many of them a fork of these three files makes, where that follows of what a fork is.
@@ -59,15 +55,25 @@ const MANY: u64 = 50;
 
 const KINDS: [IoKind; 3] = [IoKind::NoSpace, IoKind::NotFound, IoKind::Other];
 
+/// How many files a fork of these to this folder copies.
+pub(crate) fn fork_to<F: FileSystem>(
+    alloc: Global,
+    files: &mut F,
+    target: &str,
+) -> Result<usize, Fault> {
+    let source = read(alloc, SETTINGS)?;
+    let details = fork(alloc, &source, files, target)?;
+    Ok(details.copied.len())
+}
+
 // Whether a fork of these files is done, or else failed as the call did, and a fork to another
 // folder is done then; none where it came to something else.
 fn is_done<F: Faulty>(alloc: Global, files: &mut F, kind: IoKind) -> Result<Option<bool>, Fault> {
-    let source = read(alloc, SETTINGS)?;
-    match fork(alloc, &source, files, "b") {
+    match fork_to(alloc, files, "b") {
         Ok(_) => Ok(Some(true)),
         Err(Fault::Io(by, _)) if by == kind => {
-            let again = fork(alloc, &source, files, "c")?;
-            Ok(if again.copied.len() == SOURCE.len() {
+            let again = fork_to(alloc, files, "c")?;
+            Ok(if again == SOURCE.len() {
                 Some(false)
             } else {
                 None
@@ -77,45 +83,39 @@ fn is_done<F: Faulty>(alloc: Global, files: &mut F, kind: IoKind) -> Result<Opti
     }
 }
 
-// How many calls of the sort fail a fork in this way.
-fn count_failing<F: Faulty>(
-    alloc: Global,
-    files: &mut F,
-    call: FsCall,
-    kind: IoKind,
-) -> Result<Option<u64>, Fault> {
-    for nth in 1..MANY {
-        *files = F::fresh(alloc);
-        make_source(alloc, files)?;
-        files.fail(Failing::Nth(call, nth, kind))?;
-        match is_done(alloc, files, kind)? {
-            Some(true) => return Ok(Some(nth - 1)),
-            Some(false) => {}
-            None => return Ok(None),
-        }
+fn is_count(count: u64, sort: &Sort) -> bool {
+    match sort.1 {
+        Some(wanted) => count == wanted,
+        None => count > 0,
     }
-    Ok(None)
 }
 
+// Whether as many calls of the sort as it says fail a fork in this way.
 fn is_as_said<F: Faulty>(
     alloc: Global,
     files: &mut F,
     sort: &Sort,
     kind: IoKind,
 ) -> Result<bool, Fault> {
-    match (count_failing(alloc, files, sort.0, kind)?, sort.1) {
-        (Some(count), Some(wanted)) => Ok(count == wanted),
-        (Some(count), None) => Ok(count > 0),
-        (None, _) => Ok(false),
+    for nth in 1..MANY {
+        *files = F::fresh(alloc);
+        make_source(alloc, files)?;
+        files.fail(Failing::Nth(sort.0, nth, kind))?;
+        match is_done(alloc, files, kind)? {
+            Some(true) => return Ok(is_count(nth - 1, sort)),
+            Some(false) => {}
+            None => return Ok(false),
+        }
     }
+    Ok(false)
 }
 
 #[test]
 fn each_failing_call_fails_the_fork(rt: HostRuntime) -> Result<(), Fail> {
     let mut files = MemoryFileSystem::new(rt.alloc());
     for (place, sort) in SORTS.iter().enumerate() {
-        for kind in KINDS {
-            let held = is_as_said(rt.alloc(), &mut files, sort, kind)?;
+        for kind in &KINDS {
+            let held = is_as_said(rt.alloc(), &mut files, sort, *kind)?;
             assert!(rt; held, "row {place}, {kind:?}");
         }
     }
@@ -127,12 +127,11 @@ fn each_failing_call_fails_the_fork(rt: HostRuntime) -> Result<(), Fail> {
 fn is_made<F: Faulty>(alloc: Global) -> Result<bool, Fault> {
     let mut files = F::fresh(alloc);
     make_source(alloc, &mut files)?;
-    let source = read(alloc, SETTINGS)?;
-    let copied = match fork(alloc, &source, &mut files, "b") {
-        Err(Fault::Memory) => fork(alloc, &source, &mut files, "c")?.copied,
-        answer => answer?.copied,
+    let copied = match fork_to(alloc, &mut files, "b") {
+        Err(Fault::Memory) => fork_to(alloc, &mut files, "c")?,
+        answer => answer?,
     };
-    Ok(copied.len() == SOURCE.len())
+    Ok(copied == SOURCE.len())
 }
 
 #[test]

@@ -1,11 +1,11 @@
 //! Forks that stop at a call: no log file stands in the target, or the mark does.
 
-use crate::fork_refusals::{SETTINGS, make_source};
+use crate::fork_refusals::{fork_to, make_source};
 use raft_env::IoKind;
-use raft_fork::{FORK_MARK, fork};
+use raft_fork::FORK_MARK;
 use raft_memory::{FsCall, MemoryFileSystem};
 use raft_records::Fault;
-use raft_settings::read;
+use raft_rows::{Row, rows_hold};
 use raft_test_rows::{Failing, Faulty};
 use std::alloc::Global;
 use std::test::Fail;
@@ -31,33 +31,45 @@ static STOPS: [Stop; 14] = [
     Stop(FsCall::Delete, 1, true, 3),
 ];
 
+fn have_mark(names: &[String]) -> bool {
+    for name in names {
+        if name.as_str() == FORK_MARK {
+            return true;
+        }
+    }
+    false
+}
+
 // Whether the mark and so many log files stand after a fork to `b` that stopped, and the next fork
 // there is refused where the mark stands.
 fn is_left<F: Faulty>(alloc: Global, files: &mut F, stop: &Stop) -> Result<bool, Fault> {
     *files = F::fresh(alloc);
     make_source(alloc, files)?;
     files.fail(Failing::Nth(stop.0, stop.1, IoKind::Other))?;
-    let source = read(alloc, SETTINGS)?;
     let stopped = matches!(
-        &fork(alloc, &source, files, "b"),
+        &fork_to(alloc, files, "b"),
         Err(Fault::Io(IoKind::Other, _))
     );
     let names = match files.list("b") {
         Ok(names) => names,
         Err(fault) => return Err(fault.with_path(alloc, "b")),
     };
-    let marked = names.iter().any(|name| name.as_str() == FORK_MARK);
+    let marked = have_mark(&names);
     let logs = names.len().saturating_sub(usize::from(marked));
-    let again = fork(alloc, &source, files, "b");
-    let refused = matches!(&again, Err(Fault::InvalidArgument(_)));
+    let refused = matches!(&fork_to(alloc, files, "b"), Err(Fault::InvalidArgument(_)));
     Ok(stopped && marked == stop.2 && logs == stop.3 && refused == marked)
+}
+
+impl Row for Stop {
+    type State = MemoryFileSystem;
+
+    fn holds(&self, alloc: Global, files: &mut MemoryFileSystem) -> Result<bool, Fault> {
+        is_left(alloc, files, self)
+    }
 }
 
 #[test]
 fn a_stopped_fork_is_marked(rt: HostRuntime) -> Result<(), Fail> {
     let mut files = MemoryFileSystem::new(rt.alloc());
-    for (place, stop) in STOPS.iter().enumerate() {
-        assert!(rt; is_left(rt.alloc(), &mut files, stop)?, "row {place}");
-    }
-    Ok(())
+    rows_hold(rt.alloc(), &mut files, &STOPS)
 }

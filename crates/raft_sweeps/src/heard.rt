@@ -5,6 +5,7 @@ use raft_env::{FileSystem, IoKind};
 use raft_listeners::{EventListener, EventSink, Listeners};
 use raft_memory::{FsCall, MemoryFileSystem};
 use raft_records::{Command, EntryIndex, Fault, Fresh, LogBatch, ReadableSize};
+use raft_rows::{Row, rows_hold};
 use raft_test_rows::{Config, Engine};
 use std::alloc::Global;
 use std::sync::Arc;
@@ -108,85 +109,106 @@ static CALLS: [Heard; 15] = [
     Heard(1024, &[3, 5], &[Step::Put, Step::Put], 111_123),
 ];
 
-fn done<F: FileSystem, L: EventSink>(
-    alloc: Global,
+fn put(alloc: Global, batch: &mut LogBatch, key: u8) -> Result<(), Fault> {
+    batch.put(1, vec![in alloc; key]?, vec![in alloc; 8]?)
+}
+
+fn add_entry(alloc: Global, batch: &mut LogBatch) -> Result<(), Fault> {
+    let index = EntryIndex {
+        index: 1,
+        entries: None,
+        entry_offset: 0,
+        entry_len: 0,
+        lz4: false,
+    };
+    let bytes = vec![in alloc; vec![in alloc; 7]?]?;
+    batch.add_raw_entries(2, vec![in alloc; index]?, bytes)
+}
+
+// What a step writes, if it is no group.
+fn batch_of(alloc: Global, step: Step) -> Result<LogBatch, Fault> {
+    let mut batch = LogBatch::new(alloc);
+    match step {
+        Step::Put | Step::Once => put(alloc, &mut batch, 7)?,
+        Step::Entry => add_entry(alloc, &mut batch)?,
+        Step::Clean => batch.add_command(1, Command::Clean)?,
+        _ => {}
+    }
+    Ok(batch)
+}
+
+fn two_batches(alloc: Global) -> Result<Vec<LogBatch>, Fault> {
+    let mut batches = Vec::new(alloc);
+    for key in 1..3_u8 {
+        let mut batch = LogBatch::new(alloc);
+        put(alloc, &mut batch, key)?;
+        batches.push(batch)?;
+    }
+    Ok(batches)
+}
+
+fn call<F: FileSystem, L: EventSink>(
     engine: &mut Engine<F>,
     listeners: &mut L,
     step: Step,
-) -> Result<(), Fault> {
-    let mut batch = LogBatch::new(alloc);
+    batch: &mut LogBatch,
+    group: &mut [LogBatch],
+) -> Result<usize, Fault> {
     match step {
-        Step::Put => {
-            batch.put(1, vec![in alloc; 7]?, vec![in alloc; 8]?)?;
-            let _ = engine.write_with_listeners(&mut batch, true, listeners);
-        }
-        Step::Nothing => {
-            let _ = engine.write_with_listeners(&mut batch, true, listeners);
-        }
-        Step::Once => {
-            batch.put(1, vec![in alloc; 7]?, vec![in alloc; 8]?)?;
-            let _ = engine.write_once_with_listeners(&mut batch, &[(1, 1)], true, listeners);
-        }
+        Step::Once => engine.write_once_with_listeners(batch, &[(1, 1)], true, listeners),
         Step::Group => {
-            let mut batches = Vec::new(alloc);
-            for key in 1..3_u8 {
-                let mut batch = LogBatch::new(alloc);
-                batch.put(1, vec![in alloc; key]?, vec![in alloc; 8]?)?;
-                batches.push(batch)?;
-            }
-            let _ = engine.write_group_with_listeners(&mut batches, &[true, false], listeners);
-        }
-        Step::Entry => {
-            let index = EntryIndex {
-                index: 1,
-                entries: None,
-                entry_offset: 0,
-                entry_len: 0,
-                lz4: false,
-            };
-            batch.add_raw_entries(
-                2,
-                vec![in alloc; index]?,
-                vec![in alloc; vec![in alloc; 7]?]?,
-            )?;
-            let _ = engine.write_with_listeners(&mut batch, true, listeners);
+            engine.write_group_with_listeners(group, &[true, false], listeners)?;
+            Ok(0)
         }
         Step::Compact => {
-            let _ = engine.compact_to_with_listeners(2, 9, listeners);
+            engine.compact_to_with_listeners(2, 9, listeners)?;
+            Ok(0)
         }
-        Step::Purge => {
-            let _ = engine.must_purge_all_stale_with_listeners(listeners);
-        }
-        Step::Rewrite => {
-            let _ = engine.must_rewrite_append_queue_with_listeners(None, None, listeners);
-        }
-        Step::Renew => {
-            let _ = engine.must_rewrite_rewrite_queue_with_listeners(listeners);
-        }
-        Step::Clean => {
-            batch.add_command(1, Command::Clean)?;
-            let _ = engine.write_with_listeners(&mut batch, true, listeners);
-        }
+        Step::Purge => engine.must_purge_all_stale_with_listeners(listeners),
+        Step::Rewrite => engine.must_rewrite_append_queue_with_listeners(None, None, listeners),
+        Step::Renew => engine.must_rewrite_rewrite_queue_with_listeners(listeners),
+        _ => engine.write_with_listeners(batch, true, listeners),
+    }
+}
+
+// Of each call what is heard counts, and not its answer.
+fn call_each<F: FileSystem, L: EventSink>(
+    alloc: Global,
+    engine: &mut Engine<F>,
+    listeners: &mut L,
+    steps: &[Step],
+) -> Result<(), Fault> {
+    for step in steps {
+        let mut batch = batch_of(alloc, *step)?;
+        let mut group = two_batches(alloc)?;
+        let _ = call(engine, listeners, *step, &mut batch, &mut group);
     }
     Ok(())
 }
 
-fn heard_over<F: FileSystem + Drop>(alloc: Global, row: &Heard, files: F) -> Result<u64, Fault> {
-    let heard = Arc::new(alloc, AtomicU64::new(0))?;
-    let mut given: Vec<Box<dyn EventListener + Send>> = Vec::new(alloc);
-    given.push(Box::new(
-        alloc,
-        Counting {
-            heard: Arc::try_clone(&heard)?,
-        },
-    )?)?;
-    let mut listeners = Listeners::new(alloc, given);
+fn play<F: FileSystem + Drop, L: EventSink>(
+    alloc: Global,
+    row: &Heard,
+    files: F,
+    listeners: &mut L,
+) -> Result<(), Fault> {
     let mut config = Config::fresh(alloc);
     config.target_file_size = ReadableSize(row.0);
-    let mut engine = Engine::open_in_order_with_listeners(alloc, config, files, &mut listeners)?;
-    for step in row.2 {
-        done(alloc, &mut engine, &mut listeners, *step)?;
-    }
+    let mut engine = Engine::open_in_order_with_listeners(alloc, config, files, listeners)?;
+    let called = call_each(alloc, &mut engine, listeners, row.2);
+    engine.give_up();
+    called
+}
+
+fn heard_over<F: FileSystem + Drop>(alloc: Global, row: &Heard, files: F) -> Result<u64, Fault> {
+    let heard = Arc::new(alloc, AtomicU64::new(0))?;
+    let counting = Counting {
+        heard: Arc::try_clone(&heard)?,
+    };
+    let mut given: Vec<Box<dyn EventListener + Send>> = Vec::new(alloc);
+    given.push(Box::new(alloc, counting)?)?;
+    let mut listeners = Listeners::new(alloc, given);
+    play(alloc, row, files, &mut listeners)?;
     Ok(heard.load(Ordering::SeqCst))
 }
 
@@ -198,10 +220,15 @@ fn heard_of(alloc: Global, row: &Heard) -> Result<u64, Fault> {
     heard_over(alloc, row, files)
 }
 
+impl Row for Heard {
+    type State = ();
+
+    fn holds(&self, alloc: Global, _: &mut ()) -> Result<bool, Fault> {
+        Ok(heard_of(alloc, self)? == self.3)
+    }
+}
+
 #[test]
 fn a_listener_hears_each_call_in_order(rt: HostRuntime) -> Result<(), Fail> {
-    for (place, row) in CALLS.iter().enumerate() {
-        assert!(&rt; heard_of(rt.alloc(), row)? == row.3, "row {place}");
-    }
-    Ok(())
+    rows_hold(rt.alloc(), &mut (), &CALLS)
 }

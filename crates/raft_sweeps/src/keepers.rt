@@ -5,8 +5,9 @@ use raft_env::FileSystem;
 use raft_listeners::{EventListener, EventSink, FileKeeper, Listeners};
 use raft_memory::MemoryFileSystem;
 use raft_records::{EntryIndex, Fault, Fresh, LogBatch, ReadableSize};
+use raft_rows::{Row, rows_hold};
 use raft_test_rows::{Config, Engine};
-use std::alloc::{AllocError, Global};
+use std::alloc::Global;
 use std::sync::Arc;
 use std::sync::atomic::{AtomicU64, Ordering};
 use std::test::Fail;
@@ -89,11 +90,13 @@ fn settings(alloc: Global) -> Config {
     config
 }
 
-/// How many of ten purges ask for groups 1 to 3.
+/// How many of ten purges ask for groups 1 to 3, and with which file the Append queue begins then.
 fn purge_ten_times<F: FileSystem, L: FileKeeper>(
+    alloc: Global,
     engine: &mut Engine<F>,
     listeners: &mut L,
-) -> Result<u64, Fault> {
+) -> Result<(u64, FileSeq), Fault> {
+    write_all(alloc, engine, listeners)?;
     let mut asked: u64 = 0;
     for _ in 0..10 {
         let groups = engine.purge_expired_files_with_listeners(listeners)?;
@@ -101,11 +104,9 @@ fn purge_ten_times<F: FileSystem, L: FileKeeper>(
             asked = asked.saturating_add(1);
         }
     }
-    Ok(asked)
+    Ok((asked, engine.file_spans().append.0))
 }
 
-/// What ten purges come to: how many ask for groups 1 to 3, and with which file the Append queue
-/// begins then.
 fn purged<F: FileSystem + Drop, L: FileKeeper>(
     alloc: Global,
     files: F,
@@ -117,9 +118,9 @@ fn purged<F: FileSystem + Drop, L: FileKeeper>(
         files,
         listeners,
     )?;
-    write_all(alloc, &mut engine, listeners)?;
-    let asked = purge_ten_times(&mut engine, listeners)?;
-    Ok((asked, engine.file_spans().append.0))
+    let purged = purge_ten_times(alloc, &mut engine, listeners);
+    engine.give_up();
+    purged
 }
 
 /// What is found after ten purges, beside what was heard of them.
@@ -138,12 +139,12 @@ fn found_over<F: FileSystem + Drop>(
 ) -> Result<Found, Fault> {
     let appended = Arc::new(alloc, AtomicU64::new(0))?;
     let applied = Arc::new(alloc, AtomicU64::new(0))?;
-    let mut given: Vec<Box<dyn EventListener + Send>> = Vec::new(alloc);
     let keeping = Keeping {
         keeps,
         appended: Arc::try_clone(&appended)?,
         applied: Arc::try_clone(&applied)?,
     };
+    let mut given: Vec<Box<dyn EventListener + Send>> = Vec::new(alloc);
     given.push(Box::new(alloc, keeping)?)?;
     let mut listeners = Listeners::new(alloc, given);
     let (asked, first) = purged(alloc, files, &mut listeners)?;
@@ -159,15 +160,22 @@ fn found_after_ten(alloc: Global, keeps: Option<FileSeq>) -> Result<Found, Fault
     found_over(alloc, keeps, MemoryFileSystem::new(alloc))
 }
 
+impl Row for Kept {
+    type State = ();
+
+    fn holds(&self, alloc: Global, _: &mut ()) -> Result<bool, Fault> {
+        let found = found_after_ten(alloc, self.0)?;
+        // The first purge writes what few entries others have again, the tenth those of the three.
+        Ok(
+            found.asked == 10
+                && found.first == self.1
+                && found.appended == WRITES + 2
+                && found.applied == found.appended,
+        )
+    }
+}
+
 #[test]
 fn a_listener_keeps_its_files_from_purges(rt: HostRuntime) -> Result<(), Fail> {
-    for (place, row) in KEPT.iter().enumerate() {
-        let found = found_after_ten(rt.alloc(), row.0)?;
-        assert!(&rt; found.asked == 10, "row {place}");
-        assert!(&rt; found.first == row.1, "row {place}");
-        // The first purge writes what few entries others have again, the tenth those of the three.
-        assert!(&rt; found.appended == WRITES + 2, "row {place}");
-        assert!(&rt; found.applied == found.appended, "row {place}");
-    }
-    Ok(())
+    rows_hold(rt.alloc(), &mut (), &KEPT)
 }

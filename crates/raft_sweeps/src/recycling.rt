@@ -1,12 +1,13 @@
 //! A log whose dropped files are used again: stopped at each call that changes files, or with one call failing, and then
 //! crashed in many ways.
 
-use crate::answers::{CALLS, are_answers, begin_as_wanted};
-use crate::sittings::{Folders, Sittings, both_sittings, finds_allowed, new_files, sit_twice};
-use raft_env::{FileSystem, IoKind};
-use raft_memory::FsCall;
-use raft_test_rows::{Left, Outcome, is_done};
-use std::alloc::Global;
+use crate::answers::{LEFTS, begin_as_wanted, failed_by};
+use crate::sittings::{Folders, Ran, Sittings, both_sittings, finds_allowed, run_failing};
+use raft_env::IoKind;
+use raft_memory::{FsCall, MemoryFileSystem};
+use raft_records::Fault;
+use raft_test_rows::{CALLS, Failing, Faulty, Left, Op, Outcome, first_refused};
+use std::alloc::{AllocError, Global};
 use std::ops::Range;
 use std::process::Abort;
 use std::test::Fail;
@@ -20,107 +21,128 @@ const KEPT: usize = 65;
 /// the seven long values each has a write, and a next file a cut, a rename, a header and a sync.
 const MIN_CHANGES: u64 = 50;
 
-// With the changes from the nth on failing: whether there were so many.
-fn stop_at(
-    rt: &impl Abort,
+// All that was not synced, nothing of it, and of the touched bytes the first ones, with the others as zeros or as ones.
+fn ways_of(alloc: Global, kept: usize) -> Result<Vec<Left>, AllocError> {
+    let mut ways = vec![in alloc; Left::All, Left::Synced]?;
+    for kept in 0..kept {
+        ways.push(Left::Torn(kept, 0))?;
+        ways.push(Left::Torn(kept, 255))?;
+    }
+    Ok(ways)
+}
+
+// With the changes from the nth on failing: whether there were so many, or nothing where a crash leaves what may not be
+// found.
+fn stop_at<F: Faulty>(
     alloc: Global,
     sittings: &Sittings,
     nth: u64,
-    kept: usize,
-) -> Result<bool, Fail> {
-    let mut files = new_files(alloc, sittings)?;
-    files.stop_at(nth);
-    let (ran, files) = sit_twice(alloc, files, sittings)?;
-    finds_allowed(rt, alloc, &files, sittings, &ran, &Left::All)?;
-    finds_allowed(rt, alloc, &files, sittings, &ran, &Left::Synced)?;
-    for kept in 0..kept {
-        finds_allowed(rt, alloc, &files, sittings, &ran, &Left::Torn(kept, 0))?;
-        finds_allowed(rt, alloc, &files, sittings, &ran, &Left::Torn(kept, 255))?;
+    ways: &[Left],
+) -> Result<Option<bool>, Fault> {
+    let failing = Some(Failing::From(nth));
+    let (ran, files): (Ran, F) = run_failing(alloc, sittings, failing)?;
+    if finds_allowed(alloc, &files, sittings, &ran, ways)? {
+        Ok(Some(files.refusals() > 0))
+    } else {
+        Ok(None)
     }
-    Ok(files.refusals() > 0)
+}
+
+// The first of these stops that doesn't come, or after which a crash leaves what may not be found, and whether it is
+// the former.
+fn first_other(
+    alloc: Global,
+    folders: Folders,
+    stops: Range<u64>,
+    kept: usize,
+) -> Result<Option<(u64, bool)>, Fault> {
+    let sittings = both_sittings(alloc, folders)?;
+    let ways = ways_of(alloc, kept)?;
+    for nth in stops {
+        match stop_at::<MemoryFileSystem>(alloc, &sittings, nth, &ways)? {
+            Some(true) => {}
+            Some(false) => return Ok(Some((nth, true))),
+            None => return Ok(Some((nth, false))),
+        }
+    }
+    Ok(None)
 }
 
 // Each of these stops comes.
-fn stop_in(rt: &impl Abort, alloc: Global, stops: Range<u64>) -> Result<(), Fail> {
-    let sittings = both_sittings(alloc, Folders::One)?;
-    for nth in stops {
-        assert!(rt; stop_at(rt, alloc, &sittings, nth, KEPT)?, "{nth}");
+fn stop_in(alloc: Global, stops: Range<u64>) -> Result<(), Fail> {
+    match first_other(alloc, Folders::One, stops, KEPT)? {
+        None => Ok(()),
+        Some((nth, _)) => Err(Fail::new(format_args!("change {nth}"))),
     }
-    Ok(())
 }
 
 // The stops from this one on, until none comes.
-fn stop_from(
-    rt: &impl Abort,
-    alloc: Global,
-    folders: Folders,
-    first: u64,
-    kept: usize,
-) -> Result<(), Fail> {
-    let sittings = both_sittings(alloc, folders)?;
-    for nth in first..MAX_CALLS {
-        if !stop_at(rt, alloc, &sittings, nth, kept)? {
-            assert!(rt; nth > MIN_CHANGES, "{nth}");
-            return Ok(());
+fn stop_from(alloc: Global, folders: Folders, first: u64, kept: usize) -> Result<(), Fail> {
+    match first_other(alloc, folders, first..MAX_CALLS, kept)? {
+        Some((nth, is_missing)) => {
+            if is_missing && nth > MIN_CHANGES {
+                Ok(())
+            } else {
+                Err(Fail::new(format_args!("change {nth}")))
+            }
         }
+        None => Err(Fail::new("each stop comes")),
     }
-    assert!(rt; false);
-    Ok(())
 }
 
 #[test]
 fn recycling_may_stop_at_changes_1_to_14(rt: HostRuntime) -> Result<(), Fail> {
-    stop_in(&rt, rt.alloc(), 1..15)
+    stop_in(rt.alloc(), 1..15)
 }
 
 #[test]
 fn recycling_may_stop_at_changes_15_to_28(rt: HostRuntime) -> Result<(), Fail> {
-    stop_in(&rt, rt.alloc(), 15..29)
+    stop_in(rt.alloc(), 15..29)
 }
 
 #[test]
 fn recycling_may_stop_at_changes_29_to_42(rt: HostRuntime) -> Result<(), Fail> {
-    stop_in(&rt, rt.alloc(), 29..43)
+    stop_in(rt.alloc(), 29..43)
 }
 
 #[test]
 fn recycling_may_stop_at_changes_43_to_56(rt: HostRuntime) -> Result<(), Fail> {
-    stop_in(&rt, rt.alloc(), 43..57)
+    stop_in(rt.alloc(), 43..57)
 }
 
 #[test]
 fn recycling_may_stop_at_changes_57_to_70(rt: HostRuntime) -> Result<(), Fail> {
-    stop_in(&rt, rt.alloc(), 57..71)
+    stop_in(rt.alloc(), 57..71)
 }
 
 #[test]
 fn recycling_may_stop_at_changes_71_to_84(rt: HostRuntime) -> Result<(), Fail> {
-    stop_in(&rt, rt.alloc(), 71..85)
+    stop_in(rt.alloc(), 71..85)
 }
 
 #[test]
 fn recycling_may_stop_at_changes_85_to_98(rt: HostRuntime) -> Result<(), Fail> {
-    stop_in(&rt, rt.alloc(), 85..99)
+    stop_in(rt.alloc(), 85..99)
 }
 
 #[test]
 fn recycling_may_stop_at_changes_99_to_112(rt: HostRuntime) -> Result<(), Fail> {
-    stop_in(&rt, rt.alloc(), 99..113)
+    stop_in(rt.alloc(), 99..113)
 }
 
 #[test]
 fn recycling_may_stop_at_changes_113_to_126(rt: HostRuntime) -> Result<(), Fail> {
-    stop_in(&rt, rt.alloc(), 113..127)
+    stop_in(rt.alloc(), 113..127)
 }
 
 #[test]
 fn recycling_may_stop_at_changes_from_127_on(rt: HostRuntime) -> Result<(), Fail> {
-    stop_from(&rt, rt.alloc(), Folders::One, 127, KEPT)
+    stop_from(rt.alloc(), Folders::One, 127, KEPT)
 }
 
 #[test]
 fn recycling_in_two_folders_may_stop_at_each_change(rt: HostRuntime) -> Result<(), Fail> {
-    stop_from(&rt, rt.alloc(), Folders::Two, 1, 1)
+    stop_from(rt.alloc(), Folders::Two, 1, 1)
 }
 
 // Whether no operation fails by the call.
@@ -131,43 +153,68 @@ fn is_done_without(call: FsCall) -> bool {
     )
 }
 
-// With the nth call of a sort failing: whether there were so many.
-fn refuse_one(
-    rt: &impl Abort,
+// Whether the operations are answered as wanted, and none fails by a call that they do without.
+fn are_answered(
+    ops: &[Op],
+    outcomes: &[Outcome],
+    wanted: &[Outcome],
+    call: FsCall,
+    kind: IoKind,
+) -> bool {
+    let are_done = outcomes.len() == wanted.len() && first_refused(outcomes).is_none();
+    failed_by(ops, outcomes, kind).is_some()
+        && begin_as_wanted(outcomes, wanted)
+        && (are_done || !is_done_without(call))
+}
+
+// With the nth call of a sort failing: whether there were so many, or nothing where something is wrong.
+fn refuse_one<F: Faulty>(
     alloc: Global,
     sittings: &Sittings,
     wanted: &[Outcome],
     call: FsCall,
     nth: u64,
     kind: IoKind,
-) -> Result<bool, Fail> {
-    let mut files = new_files(alloc, sittings)?;
-    files.refuse(call, nth, kind)?;
-    let (ran, files) = sit_twice(alloc, files, sittings)?;
-    begin_as_wanted(rt, &ran.outcomes, wanted);
-    are_answers(rt, &sittings.all, &ran.outcomes, kind);
-    if is_done_without(call) {
-        assert_eq!(rt; ran.outcomes.len(), wanted.len(), "{call:?} {nth}");
-        assert!(rt; ran.outcomes.iter().all(is_done), "{call:?} {nth}");
+) -> Result<Option<bool>, Fault> {
+    let failing = Some(Failing::Nth(call, nth, kind));
+    let (ran, files): (Ran, F) = run_failing(alloc, sittings, failing)?;
+    if are_answered(&sittings.all, &ran.outcomes, wanted, call, kind)
+        && finds_allowed(alloc, &files, sittings, &ran, &LEFTS)?
+    {
+        Ok(Some(files.refusals() > 0))
+    } else {
+        Ok(None)
     }
-    for left in [Left::All, Left::Synced, Left::Torn(7, 255)] {
-        finds_allowed(rt, alloc, &files, sittings, &ran, &left)?;
-    }
-    Ok(files.refusals() > 0)
 }
 
+// The first call of a sort that doesn't come, or of which something is wrong, and whether it is the former.
+fn first_missing(
+    alloc: Global,
+    sittings: &Sittings,
+    wanted: &[Outcome],
+    call: FsCall,
+    kind: IoKind,
+) -> Result<(u64, bool), Fault> {
+    for nth in 1..MAX_CALLS {
+        match refuse_one::<MemoryFileSystem>(alloc, sittings, wanted, call, nth, kind)? {
+            Some(true) => {}
+            Some(false) => return Ok((nth, true)),
+            None => return Ok((nth, false)),
+        }
+    }
+    Ok((MAX_CALLS, false))
+}
+
+// In two folders there are calls of each sort.
 fn refuse_each(rt: &impl Abort, alloc: Global, folders: Folders, kind: IoKind) -> Result<(), Fail> {
     let sittings = both_sittings(alloc, folders)?;
-    let (wanted, _) = sit_twice(alloc, new_files(alloc, &sittings)?, &sittings)?;
-    assert_eq!(rt; wanted.outcomes.len(), sittings.all.len());
-    assert!(rt; wanted.outcomes.iter().all(is_done));
-    for call in CALLS {
-        let mut met = refuse_one(rt, alloc, &sittings, &wanted.outcomes, call, 1, kind)?;
-        assert!(rt; met || matches!(folders, Folders::One), "{call:?}");
-        for nth in 2..MAX_CALLS {
-            met = met && refuse_one(rt, alloc, &sittings, &wanted.outcomes, call, nth, kind)?;
-        }
-        assert!(rt; !met);
+    let (wanted, _): (Ran, MemoryFileSystem) = run_failing(alloc, &sittings, None)?;
+    let are_all = wanted.outcomes.len() == sittings.all.len();
+    assert!(rt; are_all && first_refused(&wanted.outcomes).is_none());
+    for call in &CALLS {
+        let (nth, is_missing) = first_missing(alloc, &sittings, &wanted.outcomes, *call, kind)?;
+        let is_tried = nth > 1 || matches!(folders, Folders::One);
+        assert!(rt; is_missing && is_tried, "{call:?} {nth}");
     }
     Ok(())
 }

@@ -1,12 +1,13 @@
 //! Operations with one failing call to the files.
 
-use crate::answers::{CALLS, are_answers, begin_as_wanted, is_refusal};
-use raft_env::{FileSystem, IoKind};
+use crate::answers::{LEFTS, begin_as_wanted, failed_by};
+use crate::sittings::found_after;
+use raft_env::IoKind;
 use raft_memory::{FsCall, MemoryFileSystem};
 use raft_records::Fault;
 use raft_test_rows::{
-    EXPIRED, Engine, Left, MAX_FILES, OPERATIONS, Op, Outcome, PURGES, Plan, State, choices_of,
-    first_refused, is_allowed, is_done, ops_of, run, settings, state_of,
+    CALLS, EXPIRED, Failing, Faulty, OPERATIONS, Op, Outcome, PURGES, Plan, Ran, first_refused,
+    is_allowed, is_refusal, ops_of, run_over, settings,
 };
 use std::alloc::Global;
 use std::process::Abort;
@@ -16,57 +17,11 @@ const MAX_CALLS: u64 = 400;
 
 const KINDS: [IoKind; 3] = [IoKind::NoSpace, IoKind::NotFound, IoKind::Other];
 
-/// What operations came to, and the files.
-#[derive(Drop)]
-struct Shown<F> {
-    outcomes: Vec<Outcome>,
-    failed_at: Option<usize>,
-    opening: Option<Fault>,
-    refused: bool,
-    files: F,
-}
-
-fn run_over<F: FileSystem + Drop>(alloc: Global, ops: &[Op], files: F) -> Result<Shown<F>, Fail> {
-    match Engine::open_in_order(alloc, settings(alloc)?, files) {
-        Ok(mut engine) => {
-            let outcomes = run(alloc, &mut engine, ops)?;
-            let failed_at = if engine.failed() {
-                first_refused(&outcomes)
-            } else {
-                None
-            };
-            let files = engine.give_up();
-            Ok(Shown {
-                outcomes,
-                failed_at,
-                opening: None,
-                refused: files.refusals() > 0,
-                files,
-            })
-        }
-        Err(refused) => Ok(Shown {
-            outcomes: Vec::new(alloc),
-            failed_at: None,
-            opening: Some(refused.fault),
-            refused: refused.file_system.refusals() > 0,
-            files: refused.file_system,
-        }),
-    }
-}
-
-fn found_in<F: FileSystem + Drop>(alloc: Global, files: F) -> Result<State, Fail> {
-    match Engine::open_in_order(alloc, settings(alloc)?, files) {
-        Ok(mut engine) => Ok(state_of(&engine.image()?)),
-        Err(refused) => Err(refused.fault.into()),
-    }
-}
-
 // What the operations are answered where nothing fails.
 fn answered(rt: &impl Abort, alloc: Global, ops: &[Op]) -> Result<Vec<Outcome>, Fail> {
-    let shown = run_over(alloc, ops, MemoryFileSystem::new(alloc))?;
-    assert_eq!(rt; shown.outcomes.len(), ops.len());
-    assert!(rt; shown.outcomes.iter().all(is_done));
-    Ok(shown.outcomes)
+    let (ran, _) = run_over(alloc, settings(alloc)?, ops, MemoryFileSystem::new(alloc))?;
+    assert!(rt; ran.outcomes.len() == ops.len() && first_refused(&ran.outcomes).is_none());
+    Ok(ran.outcomes)
 }
 
 // Whether no operation fails by the failing call: room that can't be made ahead is done without, and a record that
@@ -79,39 +34,93 @@ fn is_done_without(call: FsCall, kind: IoKind, refused: bool) -> bool {
     }
 }
 
-// With the nth call of a sort failing: whether there were so many.
-fn refuse_one(
-    rt: &impl Abort,
+// Whether the opening or an operation fails by the call, or nothing where one is answered wrongly.
+fn failed(ops: &[Op], ran: &Ran, kind: IoKind) -> Option<bool> {
+    match &ran.refused {
+        Some(fault) => {
+            if is_refusal(fault, kind) {
+                Some(true)
+            } else {
+                None
+            }
+        }
+        None => failed_by(ops, &ran.outcomes, kind),
+    }
+}
+
+// Whether the operations are answered as wanted, and one fails, or the opening, where a call did that
+// they don't do without.
+fn are_answered(
+    ops: &[Op],
+    ran: &Ran,
+    wanted: &[Outcome],
+    call: FsCall,
+    kind: IoKind,
+    is_met: bool,
+) -> bool {
+    match failed(ops, ran, kind) {
+        Some(failed) => {
+            begin_as_wanted(&ran.outcomes, wanted)
+                && failed == (is_met && !is_done_without(call, kind, failed))
+        }
+        None => false,
+    }
+}
+
+// Whether what crashes leave may be found.
+fn finds_allowed<F: Faulty>(
+    alloc: Global,
+    ops: &[Op],
+    ran: &Ran,
+    files: &F,
+) -> Result<bool, Fault> {
+    for left in &LEFTS {
+        let found = found_after(alloc, settings(alloc)?, files, left)?;
+        if !is_allowed(ops, &ran.outcomes, ran.failed_at, found) {
+            return Ok(false);
+        }
+    }
+    Ok(true)
+}
+
+// With the nth call of a sort failing: whether there were so many, or nothing where something is wrong.
+fn refuse_one<F: Faulty>(
     alloc: Global,
     ops: &[Op],
     wanted: &[Outcome],
     call: FsCall,
     nth: u64,
     kind: IoKind,
-) -> Result<bool, Fail> {
-    let mut files = MemoryFileSystem::new(alloc);
-    files.refuse(call, nth, kind)?;
-    let shown = run_over(alloc, ops, files)?;
-    begin_as_wanted(rt, &shown.outcomes, wanted);
-    let mut refused = are_answers(rt, ops, &shown.outcomes, kind);
-    if let Some(fault) = &shown.opening {
-        assert!(rt; is_refusal(fault, kind), "{fault:?}");
-        refused = true;
+) -> Result<Option<bool>, Fault> {
+    let mut files = F::fresh(alloc);
+    files.fail(Failing::Nth(call, nth, kind))?;
+    let (ran, files) = run_over(alloc, settings(alloc)?, ops, files)?;
+    let is_met = files.refusals() > 0;
+    if are_answered(ops, &ran, wanted, call, kind, is_met)
+        && finds_allowed(alloc, ops, &ran, &files)?
+    {
+        Ok(Some(is_met))
+    } else {
+        Ok(None)
     }
-    assert_eq!(rt;
-        refused,
-        shown.refused && !is_done_without(call, kind, refused),
-        "{call:?} {nth}"
-    );
-    for left in [Left::All, Left::Synced, Left::Torn(7, 255)] {
-        let choices = choices_of(alloc, &left, MAX_FILES)?;
-        let found = found_in(alloc, shown.files.crash(&choices)?)?;
-        assert!(rt;
-            is_allowed(ops, &shown.outcomes, shown.failed_at, found),
-            "{found:?} after {call:?} {nth}"
-        );
+}
+
+// The first call of a sort that doesn't come, or of which something is wrong, and whether it is the former.
+fn first_missing(
+    alloc: Global,
+    ops: &[Op],
+    wanted: &[Outcome],
+    call: FsCall,
+    kind: IoKind,
+) -> Result<(u64, bool), Fault> {
+    for nth in 1..MAX_CALLS {
+        match refuse_one::<MemoryFileSystem>(alloc, ops, wanted, call, nth, kind)? {
+            Some(true) => {}
+            Some(false) => return Ok((nth, true)),
+            None => return Ok((nth, false)),
+        }
     }
-    Ok(shown.refused)
+    Ok((MAX_CALLS, false))
 }
 
 fn refuse_each(
@@ -122,13 +131,10 @@ fn refuse_each(
 ) -> Result<(), Fail> {
     let ops = ops_of(alloc, plans)?;
     let wanted = answered(rt, alloc, &ops)?;
-    for call in CALLS {
+    for call in &CALLS {
         for kind in kinds {
-            let mut met = true;
-            for nth in 1..MAX_CALLS {
-                met = met && refuse_one(rt, alloc, &ops, &wanted, call, nth, *kind)?;
-            }
-            assert!(rt; !met);
+            let (nth, is_missing) = first_missing(alloc, &ops, &wanted, *call, *kind)?;
+            assert!(rt; is_missing, "{call:?} {nth} {kind:?}");
         }
     }
     Ok(())

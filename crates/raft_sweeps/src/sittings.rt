@@ -1,15 +1,12 @@
 //! Two sittings at a log whose dropped files are used again, with a close between them.
 
 use raft_env::FileSystem;
-use raft_memory::MemoryFileSystem;
-use raft_records::ReadableSize;
+use raft_records::{Fault, ReadableSize};
 use raft_test_rows::{
-    Change, Config, Engine, Left, MAX_FILES, Op, Outcome, Plan, State, choices_of, is_allowed,
+    Change, Config, Engine, Failing, Faulty, Left, Op, Outcome, Plan, State, is_allowed, op_of,
     ops_of, settings, state_of, step,
 };
 use std::alloc::{AllocError, Global};
-use std::process::Abort;
-use std::test::Fail;
 
 /// Of each value of 250 bytes a log file is full. Files 1 to 3 are dropped, of which two have room beside a reserved one, and
 /// become files 6 and 7; then files 4 and 5 are, which a close gives reserved names.
@@ -67,7 +64,7 @@ pub(crate) struct Sittings {
 }
 
 /// What the operations came to, with a sync in place of each close.
-#[derive(Debug, Drop)]
+#[derive(Drop)]
 pub(crate) struct Ran {
     pub(crate) outcomes: Vec<Outcome>,
     failed_at: Option<usize>,
@@ -86,11 +83,11 @@ fn recycling(alloc: Global, folders: Folders) -> Result<Config, AllocError> {
     Ok(config)
 }
 
-pub(crate) fn both_sittings(alloc: Global, folders: Folders) -> Result<Sittings, Fail> {
+pub(crate) fn both_sittings(alloc: Global, folders: Folders) -> Result<Sittings, AllocError> {
     let mut all = ops_of(alloc, &FIRST)?;
     all.push(Op::Sync)?;
-    for op in ops_of(alloc, &SECOND)? {
-        all.push(op)?;
+    for plan in &SECOND {
+        all.push(op_of(alloc, plan)?)?;
     }
     all.push(Op::Sync)?;
     Ok(Sittings {
@@ -101,18 +98,35 @@ pub(crate) fn both_sittings(alloc: Global, folders: Folders) -> Result<Sittings,
     })
 }
 
-/// No log files yet.
-pub(crate) fn new_files(alloc: Global, sittings: &Sittings) -> Result<MemoryFileSystem, Fail> {
-    let mut files = MemoryFileSystem::new(alloc);
+// No log files yet.
+fn new_files<F: Faulty>(alloc: Global, sittings: &Sittings) -> Result<F, Fault> {
+    let mut files = F::fresh(alloc);
     match sittings.folders {
         Folders::One => {}
         Folders::Two => {
-            files.set_free("raft", 0)?;
-            files.set_metadata("raft/0000000000000002.raftlog")?;
-            files.set_metadata("spill/0000000000000004.raftlog")?;
+            files.free_to("raft", 0)?;
+            files.note("raft/0000000000000002.raftlog")?;
+            files.note("spill/0000000000000004.raftlog")?;
         }
     }
     Ok(files)
+}
+
+fn take_steps<F: FileSystem>(
+    alloc: Global,
+    engine: &mut Engine<F>,
+    ops: &[Op],
+    ran: &mut Ran,
+) -> Result<(), Fault> {
+    for op in ops {
+        let stood = !engine.failed();
+        let outcome = step(alloc, engine, op);
+        if stood && engine.failed() {
+            ran.failed_at = Some(ran.outcomes.len());
+        }
+        ran.outcomes.push(outcome)?;
+    }
+    Ok(())
 }
 
 // Opens the files, does the operations and closes: whether that came to its end, and the files.
@@ -122,34 +136,28 @@ fn sit<F: FileSystem + Drop>(
     files: F,
     ops: &[Op],
     ran: &mut Ran,
-) -> Result<(bool, F), Fail> {
+) -> Result<(bool, F), Fault> {
     let mut engine = match Engine::open_in_order(alloc, config, files) {
         Ok(engine) => engine,
         Err(refused) => return Ok((false, refused.file_system)),
     };
-    for op in ops {
-        let stood = !engine.failed();
-        let outcome = step(alloc, &mut engine, op);
-        if stood && engine.failed() {
-            ran.failed_at = Some(ran.outcomes.len());
-        }
-        ran.outcomes.push(outcome)?;
-    }
+    let taken = take_steps(alloc, &mut engine, ops, ran);
     let (closed, files) = match engine.close() {
         Ok(files) => (Ok(()), files),
         Err(refused) => (Err(refused.fault), refused.file_system),
     };
+    taken?;
     let is_closed = closed.is_ok();
     ran.outcomes.push(Outcome::Done(closed))?;
     Ok((is_closed, files))
 }
 
-/// The second sitting is at what the first one leaves, if this came to its end.
-pub(crate) fn sit_twice<F: FileSystem + Drop>(
+// The second sitting is at what the first one leaves, if this came to its end.
+fn sit_twice<F: FileSystem + Drop>(
     alloc: Global,
     files: F,
     sittings: &Sittings,
-) -> Result<(Ran, F), Fail> {
+) -> Result<(Ran, F), Fault> {
     let mut ran = Ran {
         outcomes: Vec::new(alloc),
         failed_at: None,
@@ -164,28 +172,46 @@ pub(crate) fn sit_twice<F: FileSystem + Drop>(
     Ok((ran, files))
 }
 
-fn found_in<F: FileSystem + Drop>(alloc: Global, config: Config, files: F) -> Result<State, Fail> {
-    match Engine::open_in_order(alloc, config, files) {
-        Ok(mut engine) => Ok(state_of(&engine.image()?)),
-        Err(refused) => Err(refused.fault.into()),
+/// What both sittings come to over new files, of which calls may fail, and the files.
+pub(crate) fn run_failing<F: Faulty>(
+    alloc: Global,
+    sittings: &Sittings,
+    failing: Option<Failing>,
+) -> Result<(Ran, F), Fault> {
+    let mut files: F = new_files(alloc, sittings)?;
+    if let Some(failing) = failing {
+        files.fail(failing)?;
     }
+    sit_twice(alloc, files, sittings)
 }
 
-/// What a crash leaves may be found.
-pub(crate) fn finds_allowed(
-    rt: &impl Abort,
+/// What an opening with these settings finds in what a crash leaves.
+pub(crate) fn found_after<F: Faulty>(
     alloc: Global,
-    files: &MemoryFileSystem,
+    config: Config,
+    files: &F,
+    left: &Left,
+) -> Result<State, Fault> {
+    let mut engine = Engine::open_in_order(alloc, config, files.left(alloc, left)?)?;
+    let image = engine.image();
+    engine.give_up();
+    Ok(state_of(&image?))
+}
+
+/// Whether what each of these crashes leaves may be found.
+pub(crate) fn finds_allowed<F: Faulty>(
+    alloc: Global,
+    files: &F,
     sittings: &Sittings,
     ran: &Ran,
-    left: &Left,
-) -> Result<(), Fail> {
-    let choices = choices_of(alloc, left, MAX_FILES)?;
-    let config = recycling(alloc, sittings.folders)?;
-    let found = found_in(alloc, config, files.crash(&choices)?)?;
-    assert!(rt;
-        is_allowed(&sittings.all, &ran.outcomes, ran.failed_at, found),
-        "{found:?} after {ran:?}"
-    );
-    Ok(())
+    lefts: &[Left],
+) -> Result<bool, Fault> {
+    for left in lefts {
+        let config = recycling(alloc, sittings.folders)?;
+        let found = found_after(alloc, config, files, left)?;
+        if !is_allowed(&sittings.all, &ran.outcomes, ran.failed_at, found) {
+            return Ok(false);
+        }
+    }
+    Ok(true)
 }

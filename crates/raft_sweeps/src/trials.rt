@@ -1,11 +1,13 @@
 //! Trials: operations, a crash and an opening in one call.
 
 use raft_records::Fault;
+use raft_rows::{Row, rows_hold};
 use raft_test_rows::{
     Answer, Change, EMPTY, Left, Plan, State, Trial, are_answers, choice_of, ops_of, settings,
     state_of, trial, trial_twice,
 };
 use std::alloc::Global;
+use std::test::Fail;
 
 const FIRST: State = State { a: 1, ..EMPTY };
 
@@ -68,6 +70,22 @@ const GROUP: [Plan; 2] = [
 
 const GROUP_ANSWERS: [Answer; 2] = [Answer::Size(41), Answer::Sizes(&[Ok(28), Err(5), Ok(28)])];
 
+/// What is found of the group, of the entries, and of the synced ones.
+const GROUPED: State = State {
+    words: [0, b'w', b'w', b'w', 0, 0, 0, 0],
+    ..BOTH
+};
+
+const REPLACED: State = State {
+    words: [0, 0, b'w', b'x', 0, 0, 0, 0],
+    ..EMPTY
+};
+
+const SYNCED: State = State {
+    words: [0, b'w', b'w', b'w', b'w', 0, 0, 0],
+    ..EMPTY
+};
+
 /// Operations, a stop, what a crash is to leave, the answers, and what is found or the code of the refusal.
 struct Case(
     &'static [Plan],
@@ -77,45 +95,18 @@ struct Case(
     Result<State, u8>,
 );
 
-const CASES: [Case; 9] = [
+static CASES: [Case; 9] = [
     Case(&PLANS, None, Left::All, &ANSWERS, Ok(BOTH)),
     Case(&PLANS, None, Left::Synced, &ANSWERS, Ok(FIRST)),
     Case(&PLANS, None, Left::Torn(1, 0), &ANSWERS, Ok(FIRST)),
     Case(&PLANS, None, Left::Torn(1, 255), &ANSWERS, Ok(FIRST)),
-    Case(
-        &GROUP,
-        None,
-        Left::Synced,
-        &GROUP_ANSWERS,
-        Ok(State {
-            words: [0, b'w', b'w', b'w', 0, 0, 0, 0],
-            ..BOTH
-        }),
-    ),
+    Case(&GROUP, None, Left::Synced, &GROUP_ANSWERS, Ok(GROUPED)),
     // The first call that changes files is one of the opening.
     Case(&PLANS, Some(1), Left::All, &[], Ok(EMPTY)),
     // Storage may not leave these bytes.
     Case(&PLANS, None, Left::Bytes(&[]), &[], Err(1)),
-    Case(
-        &ENTRIES,
-        None,
-        Left::All,
-        &ENTRY_ANSWERS,
-        Ok(State {
-            words: [0, 0, b'w', b'x', 0, 0, 0, 0],
-            ..EMPTY
-        }),
-    ),
-    Case(
-        &ENTRIES,
-        None,
-        Left::Synced,
-        &ENTRY_ANSWERS,
-        Ok(State {
-            words: [0, b'w', b'w', b'w', b'w', 0, 0, 0],
-            ..EMPTY
-        }),
-    ),
+    Case(&ENTRIES, None, Left::All, &ENTRY_ANSWERS, Ok(REPLACED)),
+    Case(&ENTRIES, None, Left::Synced, &ENTRY_ANSWERS, Ok(SYNCED)),
 ];
 
 fn finds(shown: &Trial, wanted: State) -> bool {
@@ -125,39 +116,35 @@ fn finds(shown: &Trial, wanted: State) -> bool {
     }
 }
 
-fn holds(alloc: Global, case: &Case) -> Result<bool, Fault> {
-    let Case(plans, stop, left, answers, found) = case;
-    let ops = ops_of(alloc, plans)?;
-    let choice = choice_of(alloc, left)?;
-    let tried = trial(alloc, settings(alloc)?, &ops, *stop, &[choice]);
-    match (&tried, found) {
-        (Ok(shown), Ok(wanted)) => Ok(
-            are_answers(&shown.outcomes, answers)
-                && shown.failed_at.is_none()
-                && finds(shown, *wanted),
-        ),
-        (Err(fault), Err(code)) => Ok(fault.code() == *code),
-        _ => Ok(false),
+impl Row for Case {
+    type State = ();
+
+    fn holds(&self, alloc: Global, _: &mut ()) -> Result<bool, Fault> {
+        let Case(plans, stop, left, answers, found) = self;
+        let ops = ops_of(alloc, plans)?;
+        let choice = choice_of(alloc, left)?;
+        let tried = trial(alloc, settings(alloc)?, &ops, *stop, &[choice]);
+        match (&tried, found) {
+            (Ok(shown), Ok(wanted)) => Ok(
+                are_answers(&shown.outcomes, answers)
+                    && shown.failed_at.is_none()
+                    && finds(shown, *wanted),
+            ),
+            (Err(fault), Err(code)) => Ok(fault.code() == *code),
+            _ => Ok(false),
+        }
     }
 }
 
 #[test]
-fn trial_really_crashes(rt: HostRuntime) {
-    for case in &CASES {
-        assert_eq!(rt;
-            holds(rt.alloc(), case),
-            Ok(true),
-            "{:?} {:?}",
-            case.1,
-            case.4
-        );
-    }
+fn trial_really_crashes(rt: HostRuntime) -> Result<(), Fail> {
+    rows_hold(rt.alloc(), &mut (), &CASES)
 }
 
 /// What the first crash is to leave, a stop of the opening after it, what the second is to leave, and what is found.
 struct Twice(Left, Option<u64>, Left, State);
 
-const TWICE: [Twice; 5] = [
+static TWICE: [Twice; 5] = [
     Twice(Left::Synced, None, Left::All, FIRST),
     Twice(Left::All, None, Left::Synced, BOTH),
     Twice(Left::All, Some(1), Left::All, BOTH),
@@ -165,37 +152,33 @@ const TWICE: [Twice; 5] = [
     Twice(Left::Torn(1, 255), Some(2), Left::All, FIRST),
 ];
 
-fn holds_twice(alloc: Global, case: &Twice) -> Result<bool, Fault> {
-    let Twice(left, again, more, found) = case;
-    let ops = ops_of(alloc, &PLANS)?;
-    let first = choice_of(alloc, left)?;
-    let second = choice_of(alloc, more)?;
-    let shown = trial_twice(
-        alloc,
-        settings(alloc)?,
-        &ops,
-        None,
-        &[first],
-        *again,
-        &[second],
-    )?;
-    let is_second = match &shown.second {
-        Some(Ok(image)) => again.is_none() && state_of(image) == *found,
-        Some(Err(_)) => again.is_some(),
-        None => false,
-    };
-    Ok(is_second && finds(&shown, *found))
+impl Row for Twice {
+    type State = ();
+
+    fn holds(&self, alloc: Global, _: &mut ()) -> Result<bool, Fault> {
+        let Twice(left, again, more, found) = self;
+        let ops = ops_of(alloc, &PLANS)?;
+        let first = choice_of(alloc, left)?;
+        let second = choice_of(alloc, more)?;
+        let shown = trial_twice(
+            alloc,
+            settings(alloc)?,
+            &ops,
+            None,
+            &[first],
+            *again,
+            &[second],
+        )?;
+        let is_second = match &shown.second {
+            Some(Ok(image)) => again.is_none() && state_of(image) == *found,
+            Some(Err(_)) => again.is_some(),
+            None => false,
+        };
+        Ok(is_second && finds(&shown, *found))
+    }
 }
 
 #[test]
-fn trial_really_crashes_twice(rt: HostRuntime) {
-    for case in &TWICE {
-        assert_eq!(rt;
-            holds_twice(rt.alloc(), case),
-            Ok(true),
-            "{:?} {:?}",
-            case.1,
-            case.3
-        );
-    }
+fn trial_really_crashes_twice(rt: HostRuntime) -> Result<(), Fail> {
+    rows_hold(rt.alloc(), &mut (), &TWICE)
 }

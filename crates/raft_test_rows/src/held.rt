@@ -32,7 +32,10 @@ pub trait Faulty: FileSystem + Drop {
     /// Gives metadata to a path.
     fn note(&mut self, path: &str) -> Result<(), Fault>;
 
-    /// The files with all their bytes, as a crash leaves them.
+    /// The files as a crash leaves them.
+    fn left(&self, alloc: Global, left: &Left) -> Result<Self, Fault>;
+
+    /// .. with all their bytes.
     fn copied(&self, alloc: Global) -> Result<Self, Fault>;
 }
 
@@ -62,7 +65,7 @@ impl Faulty for MemoryFileSystem {
     }
 
     fn crash_to(&mut self, alloc: Global, left: &Left) -> Result<(), Fault> {
-        *self = self.crash(&choices_of(alloc, left, MAX_FILES)?)?;
+        *self = self.left(alloc, left)?;
         Ok(())
     }
 
@@ -74,8 +77,12 @@ impl Faulty for MemoryFileSystem {
         Ok(self.set_metadata(path)?)
     }
 
+    fn left(&self, alloc: Global, left: &Left) -> Result<MemoryFileSystem, Fault> {
+        self.crash(&choices_of(alloc, left, MAX_FILES)?)
+    }
+
     fn copied(&self, alloc: Global) -> Result<MemoryFileSystem, Fault> {
-        self.crash(&choices_of(alloc, &Left::All, MAX_FILES)?)
+        self.left(alloc, &Left::All)
     }
 }
 
@@ -97,18 +104,28 @@ fn is_image<F: FileSystem>(engine: &mut Engine<F>, state: State) -> bool {
 }
 
 impl<F: Faulty> Held<F> {
-    /// Begins anew.
-    pub fn renew(&mut self, alloc: Global) {
-        *self = Held::Files(F::fresh(alloc));
-    }
-
-    fn take(&mut self) -> Option<F> {
-        match mem::replace(self, Held::Nothing) {
+    /// The files, which an engine gives up.
+    pub fn into_files(self) -> Option<F> {
+        match self {
             Held::Files(files) => Some(files),
             Held::Engine(engine) => Some(engine.give_up()),
             Held::Refused(refused) => Some(refused.file_system),
             Held::Nothing => None,
         }
+    }
+
+    fn take(&mut self) -> Option<F> {
+        mem::replace(self, Held::Nothing).into_files()
+    }
+
+    // What was held ends by a call: the proof of a drop is written out where it stands.
+    fn hold(&mut self, held: Held<F>) {
+        mem::replace(self, held).into_files();
+    }
+
+    /// Begins anew.
+    pub fn renew(&mut self, alloc: Global) {
+        self.hold(Held::Files(F::fresh(alloc)));
     }
 
     /// The files, unless an engine has them.
@@ -122,17 +139,17 @@ impl<F: Faulty> Held<F> {
 
     pub fn give_up(&mut self) {
         if let Some(files) = self.take() {
-            *self = Held::Files(files);
+            self.hold(Held::Files(files));
         }
     }
 
     /// Opens the files, which an engine gives up first.
     pub fn open_with(&mut self, alloc: Global, config: Config) {
         if let Some(files) = self.take() {
-            *self = match Engine::open_in_order(alloc, config, files) {
-                Ok(engine) => Held::Engine(engine),
-                Err(refused) => Held::Refused(refused),
-            };
+            match Engine::open_in_order(alloc, config, files) {
+                Ok(engine) => self.hold(Held::Engine(engine)),
+                Err(refused) => self.hold(Held::Refused(refused)),
+            }
         }
     }
 
@@ -149,19 +166,19 @@ impl<F: Faulty> Held<F> {
 
     pub fn close(&mut self) {
         if let Held::Engine(engine) = mem::replace(self, Held::Nothing) {
-            *self = match engine.close() {
-                Ok(files) => Held::Files(files),
-                Err(refused) => Held::Refused(refused),
-            };
+            match engine.close() {
+                Ok(files) => self.hold(Held::Files(files)),
+                Err(refused) => self.hold(Held::Refused(refused)),
+            }
         }
     }
 
     pub fn reopen(&mut self) {
         if let Held::Engine(engine) = mem::replace(self, Held::Nothing) {
-            *self = match engine.reopen() {
-                Ok(engine) => Held::Engine(engine),
-                Err(refused) => Held::Refused(refused),
-            };
+            match engine.reopen() {
+                Ok(engine) => self.hold(Held::Engine(engine)),
+                Err(refused) => self.hold(Held::Refused(refused)),
+            }
         }
     }
 

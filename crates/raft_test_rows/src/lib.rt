@@ -3,12 +3,16 @@
 
 mod held;
 mod plans;
+mod runs;
 mod states;
 
 pub use held::{Failing, Faulty, Held};
-pub use plans::{Answer, Change, Left, Plan, are_answers, choice_of, choices_of, fault_of, ops_of};
+pub use plans::{
+    Answer, Change, Left, Plan, are_answers, choice_of, choices_of, fault_of, op_of, ops_of,
+};
 pub use raft_log_engine::{Config, Engine, Image, RecoveryMode, Refused};
 pub use raft_script::{Op, Outcome, TextEntry, Trial, number_of, run, step, trial, trial_twice};
+pub use runs::{CALLS, Ran, is_refusal, run_over};
 pub use states::{
     EMPTY, EXPIRED, MAX_FILES, OPERATIONS, PURGES, REWRITTEN_IN_PARTS, State, after, are_new,
     count_below, first_refused, is_allowed, is_done, settings, settings_in, state_of, value_of,

@@ -94,7 +94,7 @@ fn parts_of(
     Ok(of)
 }
 
-fn op_of(alloc: Global, plan: &Plan) -> Result<Op, AllocError> {
+pub fn op_of(alloc: Global, plan: &Plan) -> Result<Op, AllocError> {
     match plan {
         Plan::Write(changes, sync) => Ok(Op::Write(acts_of(alloc, changes)?, *sync)),
         Plan::WriteGroup(parts) => Ok(Op::WriteGroup(parts_of(alloc, parts)?)),

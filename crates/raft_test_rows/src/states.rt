@@ -9,7 +9,7 @@ use std::alloc::{AllocError, Global};
 
 /// The first byte of the value at each key and of the word of each entry, 0 where there is none: `a` and `b` are keys
 /// of group 1, `c` and `d` of group 2; the entries are those of group 3, by their indexes.
-#[derive(Clone, Copy, Debug, PartialEq, Eq)]
+#[derive(Clone, Copy, PartialEq, Eq)]
 pub struct State {
     pub a: u8,
     pub b: u8,
@@ -54,10 +54,14 @@ fn first_byte(value: &[u8]) -> u8 {
 
 // The first byte of an entry's word, which stands after the colon.
 fn word_byte(text: &[u8]) -> u8 {
-    match text.iter().position(|byte| *byte == b':') {
-        Some(colon) => first_byte(&text[colon + 1..]),
-        None => 0,
+    let mut is_word = false;
+    for byte in text {
+        if is_word {
+            return *byte;
+        }
+        is_word = *byte == b':';
     }
+    0
 }
 
 /// The value's byte at a key.
@@ -263,14 +267,27 @@ pub fn is_done(outcome: &Outcome) -> bool {
 
 /// The place of the first operation that failed.
 pub fn first_refused(outcomes: &[Outcome]) -> Option<usize> {
-    outcomes.iter().position(|outcome| !is_done(outcome))
+    for (place, outcome) in outcomes.iter().enumerate() {
+        if !is_done(outcome) {
+            return Some(place);
+        }
+    }
+    None
+}
+
+fn asks_for_sync(parts: &[(Vec<Act>, bool)]) -> bool {
+    let mut asks = false;
+    for part in parts {
+        asks = asks || part.1;
+    }
+    asks
 }
 
 // Whether all that was done before is safe after the operation.
 fn covers(op: &Op) -> bool {
     match op {
         Op::Write(_, sync) => *sync,
-        Op::WriteGroup(parts) => parts.iter().any(|part| part.1),
+        Op::WriteGroup(parts) => asks_for_sync(parts),
         Op::WriteOnce(_, _, sync) => *sync,
         Op::Sync | Op::RewriteAppend(_, _) | Op::RewriteRewrite | Op::PurgeStale | Op::Purge =>
             true,
@@ -302,8 +319,11 @@ pub fn is_allowed(
             allowed = found == shown(state) || (allowed && !covers(op));
         }
     }
-    match failed_at.and_then(|place| ops.get(place)) {
-        Some(op) => allowed || found == shown(after(state, op)),
+    match failed_at {
+        Some(place) => match ops.get(place) {
+            Some(op) => allowed || found == shown(after(state, op)),
+            None => allowed,
+        },
         None => allowed,
     }
 }

@@ -3,8 +3,8 @@
 use raft_allowed::allowed;
 use raft_records::{Fault, ReadableSize};
 use raft_test_rows::{
-    Change, Config, EXPIRED, Image, OPERATIONS, Op, Outcome, PURGES, Plan, REWRITTEN_IN_PARTS,
-    ops_of, settings,
+    Change, Config, EXPIRED, Image, Left, OPERATIONS, Op, Outcome, PURGES, Plan, REWRITTEN_IN_PARTS,
+    op_of, ops_of, settings,
 };
 use std::alloc::{AllocError, Global};
 
@@ -21,6 +21,9 @@ pub(crate) struct List {
 
 /// Of a list of large entries, which takes long, none of them.
 const KEPT: usize = 64;
+
+/// What a crash may leave of each log file.
+pub(crate) static LEFTS: [Left; 3] = [Left::All, Left::Synced, Left::Torn(7, 255)];
 
 /// What operations came to.
 #[derive(Clone, Copy)]
@@ -78,42 +81,54 @@ pub(crate) fn numbered(alloc: Global, op: Op, pairs: &[(u64, u64)]) -> Result<Op
     }
 }
 
-fn mixed(alloc: Global, times: u64, pairs: &[(u64, u64)]) -> Result<Vec<Op>, AllocError> {
-    let mut ops = ops_of(alloc, &MIXED)?;
-    for _ in 0..times {
-        for op in ops_of(alloc, &LAST)? {
-            ops.push(numbered(alloc, op, pairs)?)?;
+/// A name, operations, how often `LAST` follows them and with which numbers, and the KB of
+/// files above which they purge.
+struct Named(
+    &'static str,
+    &'static [Plan],
+    u64,
+    &'static [(u64, u64)],
+    u64,
+);
+
+static NAMED: [Named; 7] = [
+    Named("put", &MIXED, 1, &[], 3),
+    Named("once", &MIXED, 2, &[(1, 7)], 3),
+    Named("keys", &OPERATIONS, 0, &[], 1),
+    Named("groups", &GROUPED, 0, &[], 1),
+    Named("purges", &PURGES, 0, &[], 1),
+    Named("watermarks", &EXPIRED, 0, &[], 1),
+    Named("parts", &REWRITTEN_IN_PARTS, 0, &[], 1),
+];
+
+fn row_named(name: &str) -> Option<&'static Named> {
+    for row in &NAMED {
+        if row.0 == name {
+            return Some(row);
+        }
+    }
+    None
+}
+
+fn ops_in(alloc: Global, row: &Named) -> Result<Vec<Op>, AllocError> {
+    let mut ops = ops_of(alloc, row.1)?;
+    for _ in 0..row.2 {
+        for plan in &LAST {
+            ops.push(numbered(alloc, op_of(alloc, plan)?, row.3)?)?;
         }
     }
     Ok(ops)
 }
 
-// The operations of a name, and the KB of files above which they purge.
-fn ops_named(alloc: Global, name: &str) -> Result<Option<(Vec<Op>, u64)>, AllocError> {
-    Ok(Some(match name {
-        "put" => (mixed(alloc, 1, &[])?, 3),
-        "once" => (mixed(alloc, 2, &[(1, 7)])?, 3),
-        "keys" => (ops_of(alloc, &OPERATIONS)?, 1),
-        "groups" => (ops_of(alloc, &GROUPED)?, 1),
-        "purges" => (ops_of(alloc, &PURGES)?, 1),
-        "watermarks" => (ops_of(alloc, &EXPIRED)?, 1),
-        "parts" => (ops_of(alloc, &REWRITTEN_IN_PARTS)?, 1),
-        _ => return Ok(None),
-    }))
-}
-
 impl List {
     pub(crate) fn named(alloc: Global, name: &str) -> Result<Option<List>, AllocError> {
-        let Some((done, purge_threshold)) = ops_named(alloc, name)? else {
-            return Ok(None);
-        };
-        let Some((told, _)) = ops_named(alloc, name)? else {
+        let Some(row) = row_named(name) else {
             return Ok(None);
         };
         Ok(Some(List {
-            done,
-            told,
-            purge_threshold,
+            done: ops_in(alloc, row)?,
+            told: ops_in(alloc, row)?,
+            purge_threshold: row.4,
             kept: if name == "parts" { 0 } else { KEPT },
         }))
     }
@@ -144,6 +159,11 @@ impl List {
             return Ok(found.groups.is_empty());
         }
         let images = allowed(alloc, &self.told, ran.outcomes, ran.failed_at)?;
-        Ok(images.iter().any(|image| *image == *found))
+        for image in &images {
+            if *image == *found {
+                return Ok(true);
+            }
+        }
+        Ok(false)
     }
 }

@@ -16,36 +16,48 @@ use std::env;
 use std::process::ExitCode;
 use tally::Tally;
 
-// What comes of the trials that a word names, if it names any.
-fn tried(alloc: Global, word: &str) -> Result<Option<Tally>, Fault> {
+// Makes trials of this name of a list, if there are such.
+fn try_list(
+    alloc: Global,
+    list: &mut List,
+    trials: &str,
+    tally: &mut Tally,
+) -> Result<bool, Fault> {
+    match trials {
+        "stops" => stops::each_stop(alloc, list, tally)?,
+        "as-synced" => stops::objections(alloc, list, tally)?,
+        "no-space" => refusals::each_call(alloc, list, IoKind::NoSpace, tally)?,
+        "not-found" => refusals::each_call(alloc, list, IoKind::NotFound, tally)?,
+        "other" => refusals::each_call(alloc, list, IoKind::Other, tally)?,
+        "whole" => stops::without_stop(alloc, list, tally)?,
+        _ => return Ok(false),
+    }
+    Ok(true)
+}
+
+// Makes the trials that a word names, if it names any.
+fn try_word(alloc: Global, word: &str, tally: &mut Tally) -> Result<bool, Fault> {
     if word == "by-hand" {
-        return Ok(Some(written::each_list(alloc)?));
+        written::each_list(alloc, tally)?;
+        return Ok(true);
     }
     let Some((name, trials)) = word.split_once('/') else {
-        return Ok(None);
+        return Ok(false);
     };
-    let Some(list) = List::named(alloc, name)? else {
-        return Ok(None);
-    };
-    Ok(Some(match trials {
-        "stops" => stops::each_stop(alloc, &list)?,
-        "as-synced" => stops::objections(alloc, list)?,
-        "no-space" => refusals::each_call(alloc, &list, IoKind::NoSpace)?,
-        "not-found" => refusals::each_call(alloc, &list, IoKind::NotFound)?,
-        "other" => refusals::each_call(alloc, &list, IoKind::Other)?,
-        "whole" => stops::without_stop(alloc, &list)?,
-        _ => return Ok(None),
-    }))
+    match List::named(alloc, name)? {
+        Some(mut list) => try_list(alloc, &mut list, trials, tally),
+        None => Ok(false),
+    }
 }
 
 fn main(rt: HostRuntime) -> Result<ExitCode, anyhow::Error> {
     let mut all_right = true;
     for word in env::args(&rt)?.skip(1) {
-        let found = tried(rt.alloc(), word.as_str())?;
-        let Some(tally) = &found else {
+        let mut tally = Tally::new();
+        if !try_word(rt.alloc(), word.as_str(), &mut tally)? {
             println!(rt; "{word}: no trials")?;
             return Ok(ExitCode::from(2));
-        };
+        }
         println!(rt; "{word}: {tally}")?;
         if let Some(first) = &tally.first_wrong {
             println!(rt; "{first}")?;

@@ -1,83 +1,23 @@
 //! Operations of which one call of storage is refused.
 
-use crate::lists::{CameTo, List};
+use crate::lists::{CameTo, LEFTS, List};
 use crate::tally::Tally;
 use raft_env::{FileSystem, IoKind};
 use raft_memory::{FsCall, MemoryFileSystem};
 use raft_records::Fault;
 use raft_test_rows::{
-    Engine, Image, Left, MAX_FILES, Outcome, choices_of, fault_of, first_refused, is_done, run,
+    CALLS, Engine, Image, MAX_FILES, Outcome, Ran, choices_of, fault_of, is_done, is_refusal,
+    run_over,
 };
 use std::alloc::Global;
 
 const MAX_CALLS: u64 = 400;
 
-const SORTS: [FsCall; 16] = [
-    FsCall::Create,
-    FsCall::Open,
-    FsCall::Delete,
-    FsCall::Rename,
-    FsCall::DeleteMetadata,
-    FsCall::NewReader,
-    FsCall::NewWriter,
-    FsCall::Write,
-    FsCall::Truncate,
-    FsCall::Allocate,
-    FsCall::Sync,
-    FsCall::FileSize,
-    FsCall::MakeDir,
-    FsCall::List,
-    FsCall::FreeSpace,
-    FsCall::Read,
-];
-
-/// What operations came to, and the files after them.
-#[derive(Drop)]
-struct Ran<F> {
-    outcomes: Vec<Outcome>,
-    failed_at: Option<usize>,
-    /// Why the opening failed, if it did.
-    refused: Option<Fault>,
-    files: F,
-}
-
-fn run_over<F: FileSystem + Drop>(alloc: Global, list: &List, files: F) -> Result<Ran<F>, Fault> {
-    match Engine::open_in_order(alloc, list.config(alloc)?, files) {
-        Ok(mut engine) => {
-            let outcomes = run(alloc, &mut engine, &list.done)?;
-            let failed_at = if engine.failed() {
-                first_refused(&outcomes)
-            } else {
-                None
-            };
-            Ok(Ran {
-                outcomes,
-                failed_at,
-                refused: None,
-                files: engine.give_up(),
-            })
-        }
-        Err(refused) => Ok(Ran {
-            outcomes: Vec::new(alloc),
-            failed_at: None,
-            refused: Some(refused.fault),
-            files: refused.file_system,
-        }),
-    }
-}
-
 fn image_in<F: FileSystem + Drop>(alloc: Global, list: &List, files: F) -> Result<Image, Fault> {
     let mut engine = Engine::open_in_order(alloc, list.config(alloc)?, files)?;
-    engine.image()
-}
-
-// Whether it is the refused call's. A write that twice finds no space is to be tried again.
-fn is_refusal(fault: &Fault, kind: IoKind) -> bool {
-    match fault {
-        Fault::Io(by, _) => *by == kind,
-        Fault::TryAgain => kind == IoKind::NoSpace,
-        _ => false,
-    }
+    let image = engine.image();
+    engine.give_up();
+    image
 }
 
 // What a purge answers goes by how many files were begun.
@@ -103,11 +43,34 @@ fn are_answers(outcomes: &[Outcome], before: &[Outcome], kind: IoKind) -> bool {
     right
 }
 
-fn is_answered(ran: &Ran<MemoryFileSystem>, before: &[Outcome], kind: IoKind) -> bool {
+fn is_answered(ran: &Ran, before: &[Outcome], kind: IoKind) -> bool {
     match &ran.refused {
         Some(fault) => is_refusal(fault, kind),
         None => ran.outcomes.len() == before.len() && are_answers(&ran.outcomes, before, kind),
     }
+}
+
+// Whether what crashes leave may be left.
+fn are_allowed(
+    alloc: Global,
+    list: &List,
+    ran: &Ran,
+    files: &MemoryFileSystem,
+    tally: &mut Tally,
+) -> Result<bool, Fault> {
+    let came_to = CameTo {
+        is_opened: ran.refused.is_none(),
+        outcomes: &ran.outcomes,
+        failed_at: ran.failed_at,
+    };
+    let mut right = true;
+    for left in &LEFTS {
+        let choices = choices_of(alloc, left, MAX_FILES)?;
+        let found = image_in(alloc, list, files.crash(&choices)?)?;
+        right = right && list.allows(alloc, came_to, &found)?;
+        tally.add_crash();
+    }
+    Ok(right)
 }
 
 // The nth call of a sort is refused: whether there were so many.
@@ -121,36 +84,30 @@ fn refuse_one(
     let (call, nth, kind) = failing;
     let mut files = MemoryFileSystem::new(alloc);
     files.refuse(call, nth, kind)?;
-    let ran = run_over(alloc, list, files)?;
-    let mut right = is_answered(&ran, before, kind);
-    let came_to = CameTo {
-        is_opened: ran.refused.is_none(),
-        outcomes: &ran.outcomes,
-        failed_at: ran.failed_at,
-    };
-    for left in [Left::All, Left::Synced, Left::Torn(7, 255)] {
-        let choices = choices_of(alloc, &left, MAX_FILES)?;
-        let found = image_in(alloc, list, ran.files.crash(&choices)?)?;
-        right = right && list.allows(alloc, came_to, &found)?;
-        tally.add_crash();
-    }
-    if !right {
+    let (ran, files) = run_over(alloc, list.config(alloc)?, &list.done, files)?;
+    let are_allowed = are_allowed(alloc, list, &ran, &files, tally)?;
+    if !are_allowed || !is_answered(&ran, before, kind) {
         tally.add_wrong(alloc, &(call, nth, kind))?;
     }
-    Ok(ran.files.refusals() > 0)
+    Ok(files.refusals() > 0)
 }
 
 /// Each call of each sort is refused in this way, and the files crash in three ways.
-pub(crate) fn each_call(alloc: Global, list: &List, kind: IoKind) -> Result<Tally, Fault> {
-    let mut tally = Tally::new();
-    let whole = run_over(alloc, list, MemoryFileSystem::new(alloc))?;
-    for call in SORTS {
+pub(crate) fn each_call(
+    alloc: Global,
+    list: &List,
+    kind: IoKind,
+    tally: &mut Tally,
+) -> Result<(), Fault> {
+    let files = MemoryFileSystem::new(alloc);
+    let (whole, _) = run_over(alloc, list.config(alloc)?, &list.done, files)?;
+    for call in &CALLS {
         for nth in 1..MAX_CALLS {
-            if !refuse_one(alloc, list, &whole.outcomes, (call, nth, kind), &mut tally)? {
+            if !refuse_one(alloc, list, &whole.outcomes, (*call, nth, kind), tally)? {
                 break;
             }
             tally.add_call();
         }
     }
-    Ok(tally)
+    Ok(())
 }

@@ -1,11 +1,11 @@
 //! Operations that stop at each call that changes files, and crash there in up to 132 ways.
 
-use crate::lists::{CameTo, List};
+use crate::lists::{CameTo, LEFTS, List};
 use crate::tally::Tally;
 use raft_memory::Choice;
 use raft_records::Fault;
 use raft_test_rows::{
-    Left, MAX_FILES, Op, Trial, choices_of, fault_of, is_done, trial, trial_twice,
+    Left, MAX_FILES, Op, Outcome, Trial, choices_of, fault_of, first_refused, trial, trial_twice,
 };
 use std::alloc::{AllocError, Global};
 
@@ -14,6 +14,9 @@ const MAX_CALLS: u64 = 400;
 /// So many openings after a crash are to be answered, each stopped one call later than the one
 /// before.
 const ANSWERED: u64 = 3;
+
+/// After a crash that leaves one of these the opening stops too.
+static AGAIN: [Left; 2] = [Left::Synced, Left::Torn(7, 255)];
 
 // All that was not synced, nothing of it, and of the first bytes so many with the others as zeros
 // or as ones.
@@ -40,7 +43,7 @@ fn is_left(alloc: Global, list: &List, shown: &Trial) -> Result<bool, Fault> {
 }
 
 fn is_stopped(ops: &[Op], shown: &Trial) -> bool {
-    shown.outcomes.len() != ops.len() || !shown.outcomes.iter().all(is_done)
+    shown.outcomes.len() != ops.len() || first_refused(&shown.outcomes).is_some()
 }
 
 // One crash: whether the stop came.
@@ -104,40 +107,50 @@ fn stop_openings(
     Ok(())
 }
 
-/// At each stop a crash in each way, and after two of these a stop at each call of the opening.
-pub(crate) fn each_stop(alloc: Global, list: &List) -> Result<Tally, Fault> {
-    let mut tally = Tally::new();
+// At a stop a crash in each way, and after two of these a stop at each call of the opening: whether
+// the stop came.
+fn crash_each(
+    alloc: Global,
+    list: &List,
+    stop: u64,
+    ways: &[Left],
+    tally: &mut Tally,
+) -> Result<bool, Fault> {
+    let mut stopped = false;
+    for left in ways {
+        stopped = crash_at(alloc, list, stop, left, tally)?;
+    }
+    for left in &AGAIN {
+        let choices = choices_of(alloc, left, MAX_FILES)?;
+        stop_openings(alloc, list, stop, &choices, tally)?;
+    }
+    Ok(stopped)
+}
+
+/// At each stop crashes, until none comes.
+pub(crate) fn each_stop(alloc: Global, list: &List, tally: &mut Tally) -> Result<(), Fault> {
     let ways = ways(alloc, list.kept)?;
     for stop in 1..MAX_CALLS {
-        let mut stopped = false;
-        for left in &ways {
-            stopped = crash_at(alloc, list, stop, left, &mut tally)?;
-        }
-        for left in [Left::Synced, Left::Torn(7, 255)] {
-            let choices = choices_of(alloc, &left, MAX_FILES)?;
-            stop_openings(alloc, list, stop, &choices, &mut tally)?;
-        }
-        if !stopped {
+        if !crash_each(alloc, list, stop, &ways, tally)? {
             break;
         }
         tally.add_call();
     }
-    Ok(tally)
+    Ok(())
 }
 
 /// At each stop a crash that leaves what was synced, where what may be left is told as if each plain
 /// write were synced. So many wrong ones are wanted, and the first isn't told.
-pub(crate) fn objections(alloc: Global, mut list: List) -> Result<Tally, Fault> {
+pub(crate) fn objections(alloc: Global, list: &mut List, tally: &mut Tally) -> Result<(), Fault> {
     list.tell_as_synced();
-    let mut tally = Tally::new();
     for stop in 1..MAX_CALLS {
-        if !crash_at(alloc, &list, stop, &Left::Synced, &mut tally)? {
+        if !crash_at(alloc, list, stop, &Left::Synced, tally)? {
             break;
         }
         tally.add_call();
     }
     tally.first_wrong = None;
-    Ok(tally)
+    Ok(())
 }
 
 // Memory is ample, or one request was refused.
@@ -148,21 +161,26 @@ fn is_without_memory(fault: Option<&Fault>) -> bool {
     }
 }
 
+fn are_so(outcomes: &[Outcome]) -> bool {
+    for outcome in outcomes {
+        if !is_without_memory(fault_of(outcome)) {
+            return false;
+        }
+    }
+    true
+}
+
 fn are_without_memory(shown: &Trial) -> bool {
     is_without_memory(shown.refused.as_ref())
         && is_without_memory(shown.opened.as_ref().err())
-        && shown
-            .outcomes
-            .iter()
-            .all(|outcome| is_without_memory(fault_of(outcome)))
+        && are_so(&shown.outcomes)
 }
 
 /// Crashes behind all operations. Where a request for memory is refused, as tools/refusals does, an
 /// operation or an opening says what it had no memory for, and what is found may be left.
-pub(crate) fn without_stop(alloc: Global, list: &List) -> Result<Tally, Fault> {
-    let mut tally = Tally::new();
-    for left in [Left::All, Left::Synced, Left::Torn(7, 255)] {
-        let choices = choices_of(alloc, &left, MAX_FILES)?;
+pub(crate) fn without_stop(alloc: Global, list: &List, tally: &mut Tally) -> Result<(), Fault> {
+    for left in &LEFTS {
+        let choices = choices_of(alloc, left, MAX_FILES)?;
         let shown = trial(alloc, list.config(alloc)?, &list.done, None, &choices)?;
         tally.add_crash();
         let is_right = shown.opened.is_err() || is_left(alloc, list, &shown)?;
@@ -170,5 +188,5 @@ pub(crate) fn without_stop(alloc: Global, list: &List) -> Result<Tally, Fault> {
             tally.add_wrong(alloc, &shown)?;
         }
     }
-    Ok(tally)
+    Ok(())
 }

@@ -4,7 +4,7 @@ use crate::lists::numbered;
 use crate::tally::Tally;
 use raft_allowed::allowed;
 use raft_records::{Fault, IoKind};
-use raft_test_rows::{Change, Image, Op, Outcome, Plan, ops_of};
+use raft_test_rows::{Change, Image, Op, Outcome, Plan, op_of};
 use std::alloc::{AllocError, Global};
 
 /// How an operation is answered.
@@ -201,8 +201,8 @@ const CASES: [Case; 6] = [
 fn ops_in(alloc: Global, steps: &[Step]) -> Result<Vec<Op>, AllocError> {
     let mut ops = Vec::new(alloc);
     for step in steps {
-        for op in ops_of(alloc, step.0)? {
-            ops.push(numbered(alloc, op, step.1)?)?;
+        for plan in step.0 {
+            ops.push(numbered(alloc, op_of(alloc, plan)?, step.1)?)?;
         }
     }
     Ok(ops)
@@ -302,8 +302,7 @@ fn misfits_are_refused(alloc: Global, case: &Case) -> Result<bool, Fault> {
 }
 
 /// What may be left of each list.
-pub(crate) fn each_list(alloc: Global) -> Result<Tally, Fault> {
-    let mut tally = Tally::new();
+pub(crate) fn each_list(alloc: Global, tally: &mut Tally) -> Result<(), Fault> {
     for case in &CASES {
         if case.2.is_some() {
             tally.add_call();
@@ -313,5 +312,5 @@ pub(crate) fn each_list(alloc: Global) -> Result<Tally, Fault> {
             tally.add_wrong(alloc, &case.0)?;
         }
     }
-    Ok(tally)
+    Ok(())
 }

@@ -38,24 +38,25 @@ struct Worked<J: Naming> {
 }
 
 fn main(rt: HostRuntime) -> Result<()> {
-    let (shared, seats) = share(rt.alloc())?;
+    let (shared, seats) = share(rt.alloc(), MemoryFileSystem::new(rt.alloc()))?;
     play::<Brand, _>(&rt, rt.alloc(), Opened::new(), shared, seats)
 }
 
 // A shared engine over new files, and seats at it.
-fn share(alloc: Global) -> Result<(Shared<MemoryFileSystem>, Vec<Seat>), Fault> {
-    let mut shared = shared_in(alloc)?;
+fn share<F: FileSystem + Drop>(alloc: Global, files: F) -> Result<(Shared<F>, Vec<Seat>), Fault> {
+    let engine = Engine::open_in_order(alloc, Config::fresh(alloc), files)?;
+    let mut shared = match Shared::new(alloc, engine, LIMIT) {
+        Ok(shared) => shared,
+        Err(refused) => {
+            refused.engine.give_up();
+            return Err(refused.fault);
+        }
+    };
     let seats = take_seats(alloc, &mut shared)?;
     Ok((shared, seats))
 }
 
-fn shared_in(alloc: Global) -> Result<Shared<MemoryFileSystem>, Fault> {
-    let files = MemoryFileSystem::new(alloc);
-    let engine = Engine::open_in_order(alloc, Config::fresh(alloc), files)?;
-    Shared::new(alloc, engine, LIMIT).map_err(|refused| refused.fault)
-}
-
-fn take_seats(alloc: Global, shared: &mut Shared<MemoryFileSystem>) -> Result<Vec<Seat>, Fault> {
+fn take_seats<F: FileSystem>(alloc: Global, shared: &mut Shared<F>) -> Result<Vec<Seat>, Fault> {
     let mut seats = Vec::new(alloc);
     for _ in 0..THREADS {
         seats.push(shared.seat()?)?;
@@ -76,9 +77,9 @@ fn play<J: Naming + Send + Sync + 'static, R: Threads + Wait + Print + Copy + Se
 {
     let tickets: Tickets<MemoryFileSystem, J> = Tickets::new(opened, shared, BOUND);
     let together = Arc::new(alloc, tickets)?;
-    let worked = work_in_threads(rt, alloc, &together, seats)?;
+    let (seats, puts) = work_in_threads(rt, alloc, &together, seats)?;
     match Arc::into_inner(together) {
-        Some(tickets) => report(rt, alloc, tickets.into_desk(), worked),
+        Some(tickets) => report(rt, alloc, tickets.into_desk(), seats, &puts),
         None => bail!("a thread still has the engine"),
     }
 }
@@ -89,7 +90,7 @@ fn work_in_threads<J: Naming + Send + Sync + 'static, R: Threads + Wait + Copy +
     alloc: Global,
     together: &Together<J>,
     seats: Vec<Seat>,
-) -> Result<Vec<Worked<J>>> {
+) -> Result<(Vec<Seat>, Vec<Vec<Durable<J>>>)> {
     let workers = start(rt, alloc, together, seats)?;
     Ok(join_each(rt, alloc, workers)?)
 }
@@ -114,12 +115,15 @@ fn join_each<J: Naming + Send + 'static, R: Threads>(
     rt: &R,
     alloc: Global,
     workers: Vec<Worker<J>>,
-) -> Result<Vec<Worked<J>>, Fault> {
+) -> Result<(Vec<Seat>, Vec<Vec<Durable<J>>>), Fault> {
+    let mut seats = Vec::new(alloc);
     let mut all = Vec::new(alloc);
     for worker in workers {
-        all.push(worker.join(rt)?)?;
+        let Worked { seat, puts } = worker.join(rt)?;
+        seats.push(seat)?;
+        all.push(puts)?;
     }
-    Ok(all)
+    Ok((seats, all))
 }
 
 // Puts keys of a group of the seat's own, each of which waits for the disk, and reads each of them:
@@ -147,9 +151,9 @@ fn put_of(alloc: Global, group: u64, key: u8) -> Result<LogBatch, Fault> {
 }
 
 // Whether each put stands in the engine's history before a sync that was answered.
-fn are_durable<F: FileSystem, J: Naming>(desk: &Desk<F, J>, worked: &[Worked<J>]) -> bool {
-    for one in worked {
-        for put in &one.puts {
+fn are_durable<F: FileSystem, J: Naming>(desk: &Desk<F, J>, all: &[Vec<Durable<J>>]) -> bool {
+    for puts in all {
+        for put in puts {
             if !desk.finds(put) {
                 return false;
             }
@@ -158,20 +162,20 @@ fn are_durable<F: FileSystem, J: Naming>(desk: &Desk<F, J>, worked: &[Worked<J>]
     true
 }
 
-fn seats_of<J: Naming>(alloc: Global, worked: Vec<Worked<J>>) -> Result<Vec<Seat>, Fault> {
-    let mut seats = Vec::new(alloc);
-    for one in worked {
-        let Worked { seat, puts: _ } = one;
-        seats.push(seat)?;
-    }
-    Ok(seats)
-}
-
+// .. and the engine with its history.
 fn finish<F: FileSystem + Drop, J: Naming>(
     desk: Desk<F, J>,
     seats: Vec<Seat>,
-) -> Result<Finished<F>, Fault> {
-    desk.finish(seats).map_err(|unfinished| unfinished.fault)
+    puts: &[Vec<Durable<J>>],
+) -> Result<(bool, Finished<F>), Fault> {
+    let durable = are_durable(&desk, puts);
+    match desk.finish(seats) {
+        Ok(finished) => Ok((durable, finished)),
+        Err(unfinished) => {
+            unfinished.engine.give_up();
+            Err(unfinished.fault)
+        }
+    }
 }
 
 // Prints what the history has of the puts, and what a crash leaves.
@@ -179,11 +183,12 @@ fn report<J: Naming, R: Print>(
     rt: &R,
     alloc: Global,
     desk: Desk<MemoryFileSystem, J>,
-    worked: Vec<Worked<J>>,
+    seats: Vec<Seat>,
+    puts: &[Vec<Durable<J>>],
 ) -> Result<()> {
-    let durable = are_durable(&desk, &worked);
-    let Finished { engine, trail } = finish(desk, seats_of(alloc, worked)?)?;
-    let found = holds_each_read(&after_crash(alloc, engine)?, &trail)?;
+    let (durable, finished) = finish(desk, seats, puts)?;
+    let Finished { engine, trail } = finished;
+    let found = finds_each_read(after_crash(alloc, engine)?, &trail)?;
     println!(rt; "each put stands before an answered sync: {durable}")?;
     println!(rt; "each value that was read is found after a crash: {found}")?;
     Ok(())
@@ -198,8 +203,17 @@ fn after_crash(
     Ok(Engine::open_in_order(alloc, Config::fresh(alloc), files)?)
 }
 
-// Whether each read found a value, and the engine has it.
-fn holds_each_read(engine: &Engine<MemoryFileSystem>, trail: &[Recorded]) -> Result<bool, Fault> {
+// Whether each read found a value, and the engine has it, which then ends.
+fn finds_each_read<F: FileSystem + Drop>(
+    engine: Engine<F>,
+    trail: &[Recorded],
+) -> Result<bool, Fault> {
+    let found = holds_each_read(&engine, trail);
+    engine.give_up();
+    found
+}
+
+fn holds_each_read<F: FileSystem>(engine: &Engine<F>, trail: &[Recorded]) -> Result<bool, Fault> {
     for recorded in trail {
         let Call::Get(group, key) = &*recorded.call else {
             continue;

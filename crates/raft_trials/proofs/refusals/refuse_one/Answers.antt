@@ -7,9 +7,3 @@ run_over-requires-send-F c = λ κs. search (sendable, memory_send) depth 20
 
 pub run_over-requires-sync-F : goal.run_over-requires-sync-F
 run_over-requires-sync-F c = λ κs. search (sendable, memory_sync) depth 20
-
-pub image_in-requires-send-F : goal.image_in-requires-send-F
-image_in-requires-send-F c = λ κs. search (sendable, memory_send) depth 20
-
-pub image_in-requires-sync-F : goal.image_in-requires-sync-F
-image_in-requires-sync-F c = λ κs. search (sendable, memory_sync) depth 20
