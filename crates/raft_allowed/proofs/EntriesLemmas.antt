@@ -84,9 +84,6 @@ fits_is old e es =
     regroup true b c = refl
     regroup false b c = refl
 
-pub fits_none : (old : List Entry) → is_none (entries_refusal old []) ≡ true
-fits_none old = refl
-
 -- Stored entries.
 
 abbrev pub Stored : Type 0
@@ -137,9 +134,6 @@ pub fits_some : (old : List Entry) (new : List Stored) (first : Stored) → slic
 fits_some old new first is =
     let tail = head_some new first is in
     subst (λ (l : List Stored). (are_counted_from first.0 (entries_of l) && (is_nil old || is_next_to old first.0)) ≡ is_none (entries_refusal old (entries_of l))) (sym tail.1) (sym (fits_is old (first.0, first.1.items) (entries_of tail.0)))
-
-pub fits_nothing : (old : List Entry) (new : List Stored) → slice_get new 0 ≡ None → true ≡ is_none (entries_refusal old (entries_of new))
-fits_nothing old new none = subst (λ (l : List Stored). true ≡ is_none (entries_refusal old (entries_of l))) (sym (head_none new none)) refl
 
 -- an index that is counted on, or isn't
 counted_ahead : (entries : List Stored) (start place : ℕ) (entry : Stored) → place < length entries → entry ≡ get_or entries place entry

@@ -80,9 +80,6 @@ pub record AreAppliedTo (m : Contents) (items : Batch) (groups : Groups) (fits :
   pub groups_are : AreGroupsOf (after_batch m items) groups
   pub fits_is : fits ≡ is_none (batch_refusal m items)
 
-pub applied_begun : (m : Contents) (groups : Groups) → AreGroupsOf m groups → AreAppliedTo m [] groups true
-applied_begun m groups are = record { groups_are = are; fits_is = refl }
-
 pub applied_more : (m : Contents) (items : Batch) (item : Item) (old new : Groups) (fits more : Bool) → AreAppliedTo m items old fits → new ≡ groups_after old item → more ≡ is_none (refusal_of (held_at item.group old) item.content)
     → AreAppliedTo m (items ++ item ∷ []) new (fits && more)
 applied_more m items item old new fits more applied is more_is = record {

@@ -57,9 +57,6 @@ module _ {X Y : Type 0} (f : X → Y) (p : Y → Bool) where
   abbrev pub IsPushing : List Y → List X → List Y → Type 0
   IsPushing pushed rest whole = pushed ++ filter p (map f rest) ≡ whole
 
-  pub pushing_begun : (old : List Y) (xs : List X) → IsPushing old xs (old ++ filter p (map f xs))
-  pushing_begun old xs = refl
-
   passed : (b : Bool) (y : Y) (ys : List Y) → cond b (y ∷ []) [] ++ ys ≡ cond b (y ∷ ys) ys
   passed true y ys = refl
   passed false y ys = refl

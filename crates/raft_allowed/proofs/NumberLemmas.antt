@@ -1,14 +1,13 @@
 -- The numbers that groups keep, and which are new.
-use Rattle.std.proofs.Common.{◌≡◌, ℕ, ◌+◌, ◌<◌, Bool, true, false, cond, List, [], ◌∷◌, ◌++◌, length, take, drop, get_or, Option, Some, sym, ◌∙◌, ap, append_assoc, add-one, drop-cons}
+use Rattle.std.proofs.Common.{◌≡◌, ℕ, ◌+◌, ◌<◌, Bool, true, false, cond, List, [], ◌∷◌, length, drop, get_or, Option, Some, sym, ◌∙◌, ap, add-one, drop-cons}
 use Rattle.std.specs.Prelude.{◌&&◌, nat_lt, Vec}
 use Rattle.std.specs.Map.{lookup}
 use Rattle.std.specs.Str.{bytes_eq}
 use Rattle.std.specs.Cmp.Lexicographic.{nat_list_eq_equiv}
 use Rattle.std.specs.declared.alloc.Global.{Global}
 use Rattle.std.proofs.lemmas.Bool.{cond-true, cond-false}
-use Rattle.std.proofs.lemmas.List.{map-append}
 use Rattle.raft_once.specs.History.{are_numbers}
-use Rattle.raft_once.specs.Numbers.{Pair, are_new, are_unfit, has_numbers, is_number_key, number_in, number_item, number_items, number_key, number_of, numbered}
+use Rattle.raft_once.specs.Numbers.{Pair, are_new, are_unfit, has_numbers, is_number_key, number_in, number_key, number_of, numbered}
 use Rattle.raft_records.specs.Contents.{Contents}
 use Rattle.raft_records.specs.Item.{Batch}
 use Rattle.raft_tables.specs.Listing.{listed}
@@ -37,12 +36,6 @@ pub old_at : (m : Contents) (images : List GroupImage) (pairs : List Pair) (i : 
     → false ≡ are_new m pairs
 old_at m images pairs i d kept held within keeps told so =
     sym (ap (λ b. b && are_new m (drop (i + 1) pairs)) (told_at m images (get_or pairs i d) kept false held keeps told)) ∙ sym (ahead_at m pairs i d within) ∙ so
-
--- numbers behind the items of a batch, with one more
-pub numbered_more : (items : Batch) (pairs : List Pair) (i : ℕ) (pair : Pair) (old new : Batch) → take (i + 1) pairs ≡ take i pairs ++ pair ∷ [] → old ≡ numbered items (take i pairs) → new ≡ old ++ number_item pair ∷ [] → new ≡ numbered items (take (i + 1) pairs)
-numbered_more items pairs i pair old new taken so_far pushed =
-    pushed ∙ ap (λ (l : Batch). l ++ number_item pair ∷ []) so_far ∙ append_assoc items (number_items (take i pairs)) (number_item pair ∷ [])
-    ∙ ap (λ (l : Batch). items ++ l) (sym (map-append number_item (take i pairs) (pair ∷ []))) ∙ sym (ap (λ (ps : List Pair). items ++ number_items ps) taken)
 
 -- at the first of pairs the key is found, or it isn't
 abbrev pub Stored : Type 0

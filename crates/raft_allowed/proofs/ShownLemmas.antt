@@ -72,11 +72,6 @@ values_shown m images held g k = values_go images m g k ∙ at (list_any (nat_eq
 pub shown_is : (m : Contents) (images new : List GroupImage) → IsHeldBy m images → IsHeldBy (after_batch m (forget_items images)) new → IsHeldBy (shown m) new
 shown_is m images new held are = same_groups (after_batch m (forget_items images)) (shown m) (held_of new) (entries_stay images m) (values_shown m images held) are
 
--- the deletes of one group more
-pub forget_more : (images : List GroupImage) (i : ℕ) (image : GroupImage) (old new : Batch) → take (i + 1) images ≡ take i images ++ image ∷ [] → old ≡ forget_items (take i images) → new ≡ old ++ forget_item image ∷ [] → new ≡ forget_items (take (i + 1) images)
-forget_more images i image old new taken so_far pushed =
-    pushed ∙ ap (λ (l : Batch). l ++ forget_item image ∷ []) so_far ∙ sym (map-append forget_item (take i images) (image ∷ [])) ∙ sym (ap forget_items taken)
-
 -- an image more, as it is shown
 pub shown_more : (images new next : List Image) (ms : List Contents) (place : ℕ) (image one : Image) → AreHeldBy images ms → place < length images → image ≡ get_or images place image → AreHeldBy new (map shown (take place ms))
     → ((m : Contents) → IsHeldBy m image.groups.items → IsHeldBy (shown m) one.groups.items) → next ≡ new ++ one ∷ [] → AreHeldBy next (map shown (take (place + 1) ms))

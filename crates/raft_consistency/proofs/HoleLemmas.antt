@@ -59,10 +59,6 @@ then_join (Some a) (Some b) (Some c) = then_three a.first c.last _ _ (holes_join
     holes_join : (p q r s t : Option ℕ) → option_or (option_or (option_or (option_or p q) r) s) t ≡ option_or (option_or p q) (option_or (option_or r s) t)
     holes_join p q r s t = ap (λ o. option_or o t) (or_join (option_or p q) r s) ∙ or_join (option_or p q) (option_or r s) t
 
-pub none_then : (b : Option GroupEntries) → kept_then None b ≡ b
-none_then None = refl
-none_then (Some b) = refl
-
 -- one more item's ranges
 pub kept_more : (old : Option GroupEntries) (rs ss : List IndexRange) → kept_then (kept_then old (kept_of rs)) (kept_of ss) ≡ kept_then old (kept_of (rs ++ ss))
 kept_more old rs ss = then_join old (kept_of rs) (kept_of ss) ∙ ap (kept_then old) (sym (kept-append rs ss))

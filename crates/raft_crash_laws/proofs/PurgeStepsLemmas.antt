@@ -14,7 +14,7 @@ use Rattle.raft_pipes.specs.Numbered.{in_queue}
 use Rattle.raft_pipes.specs.Pipe.{IsRecordOf}
 use Rattle.raft_pipes.specs.PipeState.{files_from, sealed_paths}
 use Rattle.raft_pipes.specs.Purge.{dropped_batches}
-use Rattle.raft_queues.specs.Dual.{DualState, HasAppendedIn, HasSyncedIn, KeepsBothAppending}
+use Rattle.raft_queues.specs.Dual.{AppendsIn, DualState, KeepsBothAppending, SyncsIn}
 use Rattle.raft_queues.specs.DualPurge.{HasDroppedUpToIn, KeepsBothRest, counts_after_drop}
 use Rattle.raft_records.specs.Contents.{Contents, after_batches}
 use Rattle.raft_records.specs.Item.{Batch}
@@ -34,7 +34,7 @@ rewritten_stands : (q : Queues) (m : Contents) (b : Batch) → Stands q m → Re
 rewritten_stands q m b s takes = stands_rewritten q m b s takes.consecutive (takes.found ∙ all_rewritten q m s)
 
 module _ (d d' : DualState) (folders : Folders) (m : Contents) (since : List Batch) (P P' : Queues → Type 0) (old new : Directory) (held : HoldsContents d folders m since P old) where
-  pub held_rewritten : (given : List ℕ) (b : Batch) → HasAppendedIn Rewrite false d d' given old new → IsRecordOf d.rewrite given b → ((q : Queues) → P q → RewriteTakes b q) → ((q : Queues) → P q → P' (appends Rewrite b q)) → HoldsContents d' folders m since P' new
+  pub held_rewritten : (given : List ℕ) (b : Batch) → AppendsIn Rewrite false d d' given old new → IsRecordOf d.rewrite given b → ((q : Queues) → P q → RewriteTakes b q) → ((q : Queues) → P q → P' (appends Rewrite b q)) → HoldsContents d' folders m since P' new
   held_rewritten given b done is takes more = ∥∥₁_map held (λ x. let h = x.2 in (
     x.0,
     x.1,
@@ -47,7 +47,7 @@ module _ (d d' : DualState) (folders : Folders) (m : Contents) (since : List Bat
     },
   ))
 
-  pub held_rewrite_synced : HasSyncedIn Rewrite d d' old new → ((q : Queues) → P q → P' (syncs Rewrite q)) → HoldsContents d' folders m since P' new
+  pub held_rewrite_synced : SyncsIn Rewrite d d' old new → ((q : Queues) → P q → P' (syncs Rewrite q)) → HoldsContents d' folders m since P' new
   held_rewrite_synced done more = ∥∥₁_map held (λ x. let h = x.2 in (
     x.0,
     x.1,

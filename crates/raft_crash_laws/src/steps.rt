@@ -6,7 +6,7 @@ ghost use Rattle.raft_env.specs.Directory.{Directory};
 ghost use Rattle.raft_config.specs.Folders.{Folders};
 ghost use Rattle.raft_pipes.specs.Pipe.{IsRecordOf};
 ghost use Rattle.raft_pipes.specs.Purge.{dropped_batches};
-ghost use Rattle.raft_queues.specs.Dual.{DualState, HasAppendedIn, HasSyncedIn, KeepsBothAppending, KeepsBothIn, StillHasBoth};
+ghost use Rattle.raft_queues.specs.Dual.{AppendsIn, DualState, KeepsBothAppending, KeepsBothIn, StillHasBoth, SyncsIn};
 ghost use Rattle.raft_queues.specs.DualPurge.{HasDroppedUpToIn, KeepsBothRest};
 ghost use Rattle.raft_records.specs.Contents.{Contents, after_batches};
 ghost use Rattle.raft_records.specs.Item.{Batch};
@@ -25,12 +25,12 @@ pub fn calls_on_the_append_queue_keep_contents()
     ensures written { (d d' : DualState) (folders : Folders) (m : Contents) (since : List Batch)
         (known : ℕ → Bool) (old new : Directory)
         → HoldsContents d folders m since (LeaveKnown known) old
-        → (given : List ℕ) (b : Batch) → HasAppendedIn Append false d d' given old new
+        → (given : List ℕ) (b : Batch) → AppendsIn Append false d d' given old new
         → IsRecordOf d.append given b → IsValidBatch (after_batches m since) b
         → HoldsContents d' folders m (since ++ b ∷ []) (LeaveKnown (known_from known (b ∷ []))) new }
     ensures synced { (d d' : DualState) (folders : Folders) (m : Contents) (since : List Batch)
         (known : ℕ → Bool) (old new : Directory)
-        → HoldsContents d folders m since (LeaveKnown known) old → HasSyncedIn Append d d' old new
+        → HoldsContents d folders m since (LeaveKnown known) old → SyncsIn Append d d' old new
         → HoldsContents d' folders (after_batches m since) [] (LeaveKnown known) new }
     ensures rotated { (d d' : DualState) (folders : Folders) (m : Contents) (since : List Batch)
         (known : ℕ → Bool) (old new : Directory)
@@ -53,7 +53,7 @@ pub fn steps_of_a_purge_keep_contents()
     ensures rewritten { (d d' : DualState) (folders : Folders) (m : Contents) (since : List Batch)
         (old new : Directory) (given : List ℕ) (b : Batch)
         → HoldsContents d folders m since (RewriteTakes b) old
-        → HasAppendedIn Rewrite false d d' given old new
+        → AppendsIn Rewrite false d d' given old new
         → IsRecordOf d.rewrite given b → HoldsContents d' folders m since (λ q. ⊤) new }
     ensures rewriting { (d : DualState) (folders : Folders) (m : Contents) (since : List Batch)
         (old n : Directory) (given : List ℕ) (b : Batch)
@@ -62,7 +62,7 @@ pub fn steps_of_a_purge_keep_contents()
         → IsRecordOf d.rewrite given b → RecoversContents folders m since n }
     ensures synced { (d d' : DualState) (folders : Folders) (m : Contents) (since : List Batch)
         (old new : Directory) → HoldsContents d folders m since (λ q. ⊤) old
-        → HasSyncedIn Rewrite d d' old new
+        → SyncsIn Rewrite d d' old new
         → HoldsContents d' folders m since (IsSyncedIn Rewrite) new }
     ensures dropped { (d d' : DualState) (folders : Folders) (m : Contents) (old new : Directory)
         (seq most : ℕ)

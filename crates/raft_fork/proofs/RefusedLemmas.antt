@@ -21,8 +21,7 @@ use Rattle.raft_pipes.proofs.PlacesLemmas.{here_first, none_stands, one_of}
 use Rattle.raft_pipes.proofs.QueueFilesLemmas.{no_file}
 use Rattle.raft_opening.proofs.SingleLemmas.{single_numbered}
 use Rattle.raft_fork.specs.Fork.{IsFree, Source, all_sources_in, copies_in, copy_in, mark_in, sources_in, standing}
-use Rattle.raft_pipes.specs.Queue.{IsMakeRefusal}
-use Rattle.raft_fork.specs.Refused.{HasLogIn, IsCopyRefusal, IsForkRefusal, IsInFolder, IsInOneOf, IsInvalid, IsMarkRefusal, IsMarkedRefusal, IsSettingsRefusal, IsSourceRefusal, IsTargetRefusal, fork_contradiction}
+use Rattle.raft_fork.specs.Refused.{HasLogIn, IsCopyRefusal, IsForkRefusal, IsInFolder, IsInOneOf, IsInvalid, IsMarkRefusal, IsMarkedRefusal, IsSourceRefusal, IsTargetRefusal, fork_contradiction}
 use Rattle.raft_fork.proofs.PlacesLemmas.{numbered, single_same}
 
 -- no log file stands where none is kept
@@ -63,27 +62,7 @@ has_log_at folder queue n (f ∷ files) kept some =
 pub has_log : (folder : Path) (queue : LogQueue) (n : Directory) (files : List (ℕ × Path)) → files ≡ kept_files (folder ∷ []) queue n → 0 < length files → HasLogIn folder n
 has_log folder queue n files are some = has_log_at folder queue n files (subst (AllByRecursion (IsKept queue n (folder ∷ []))) (sym are) (kept_all queue n (folder ∷ []))) some
 
--- refusals of the target
-target_refused : (target : Path) (n : Directory) (old new : Refusals) (e : Fault) → FailsAt (NamesFile target) old new e → IsTargetRefusal target n old new e
-target_refused target n old new (fault.InvalidArgument text) refused = absurd refused
-target_refused target n old new _ refused = refused
-
-pub listed_refused : (target : Path) (n : Directory) (old new : Refusals) (e : Fault) → IsListRefusal (target ∷ []) old new e → IsTargetRefusal target n old new e
-listed_refused target n old new e (inl is) = subst (IsTargetRefusal target n old new) (sym is) tt
-listed_refused target n old new e (inr (folder, among, refused)) = target_refused target n old new e (subst (λ f. FailsAt (NamesFile f) old new e) (sym (one_of target folder among)) refused)
-
-pub folder_refused : (target : Path) (n : Directory) (old new : Refusals) (e : Fault) → IsMakeRefusal target n old new e → IsTargetRefusal target n old new e
-folder_refused target n old new (fault.InvalidArgument text) refused = inl refused
-folder_refused target n old new _ refused = refused
-
-pub later_target : (target : Path) (n m : Directory) (old mid new : Refusals) (e : Fault) → LeavesAll n m → NoFewer old mid → IsTargetRefusal target m mid new e → IsTargetRefusal target n old new e
-later_target target n m old mid new (fault.InvalidArgument text) same fewer (inl file) = inl (subst (λ o. IsSome o) (same target) file)
-later_target target n m old mid new (fault.InvalidArgument text) same fewer (inr (inl log)) = inr (inl (log.0, log.1, subst (λ o. IsSome o) (same log.0) log.2))
-later_target target n m old mid new (fault.InvalidArgument text) same fewer (inr (inr mark)) = inr (inr (subst (λ o. IsSome o) (same (mark_in target)) mark))
-later_target target n m old mid new (fault.Io kind text) same fewer refused = (omega (arith, fewer.0, refused.0), refused.1)
-later_target target n m old mid new _ same fewer refused = refused
-
--- .. for a mark
+-- refusals of the target for a mark
 pub marked_target : (target : Path) (n m : Directory) (old new : Refusals) (e : Fault) → LeavesAll n m → IsMarkRefusal target m e → IsTargetRefusal target n old new e
 marked_target target n m old new (fault.InvalidArgument text) same mark = inr (inr (subst (λ o. IsSome o) (same (mark_in target)) mark))
 marked_target target n m old new fault.Memory same mark = tt
@@ -145,11 +124,6 @@ module _ (c : Config) (target : Path) (n : Directory) (old new : Refusals) where
   -- settings without fault leave the target and the source to be refused
   as_valid : fork_contradiction c ≡ None → (text : List ℕ) → IsInvalid None (standing (folders_in c) n) target n text → IsInvalid (fork_contradiction c) (standing (folders_in c) n) target n text
   as_valid none text invalid = subst (λ o. IsInvalid o (standing (folders_in c) n) target n text) (sym none) invalid
-
-  pub fork_settings : (e : Fault) → IsSettingsRefusal c e → IsForkRefusal c target n old new e
-  fork_settings (fault.InvalidArgument text) refused = subst (λ o. IsInvalid o (standing (folders_in c) n) target n text.now) (sym refused) refl
-  fork_settings fault.Memory refused = tt
-  fork_settings _ refused = absurd refused
 
   pub fork_memory : (e : Fault) → e ≡ fault.Memory → IsForkRefusal c target n old new e
   fork_memory e is = subst (IsForkRefusal c target n old new) (sym is) tt

@@ -1,29 +1,15 @@
 -- Files that are listed, and those that are kept or passed over.
-use Rattle.std.proofs.Common.{◌≡◌, ◌∙◌, ◌++◌, ◌+◌, ◌-◌, ◌^◌, ◌≤◌, ◌<◌, ℕ, suc, min, max, Bool, true, false, cond, List, [], ◌∷◌, length, length-append, map, ap, append_assoc, append-nil, arith, refl, sym}
+use Rattle.std.proofs.Common.{◌≡◌, ◌∙◌, ◌++◌, ◌+◌, ◌-◌, ◌^◌, ◌≤◌, ◌<◌, ℕ, suc, min, max, Bool, true, false, cond, List, [], ◌∷◌, length, length-append, map, ap, append-nil, arith, refl, sym}
 use Rattle.std.specs.Prelude.{◌↔◌, ◌&&◌, not}
 use Rattle.std.specs.List.{filter, fold, list_all, sum_by}
 use Rattle.std.proofs.lemmas.List.{map-append}
 use Rattle.std.proofs.lemmas.List.Elements.{filter-append}
 use Rattle.std.proofs.lemmas.List.Sums.{count_by-le-length, fold_push, length-filter, sum_by_push}
-use Rattle.raft_base.specs.declared.pipe_log.FileId.{FileId}
 use Rattle.raft_base.specs.declared.pipe_log.LogQueue.{LogQueue}
-use Rattle.raft_env.specs.Directory.{Path}
 use Rattle.raft_dump.specs.Check.{numbers_of}
 use Rattle.raft_dump.specs.declared.check.FileCheck.{FileCheck}
 use Rattle.raft_inspect.specs.Kept.{holds_nothing, those_held}
 use Rattle.raft_inspect.specs.declared.losses.Passed.{Passed}
-
-abbrev Place : Type 0
-Place = FileId × Path
-
--- one file more is passed over, or isn't
-pub filtered_more : (test : Place → Bool) (now rest all : List Place) (f : Place) → now ++ filter test (f ∷ rest) ≡ all → test f ≡ true → (now ++ f ∷ []) ++ filter test rest ≡ all
-filtered_more test now rest all f was is =
-    append_assoc now (f ∷ []) (filter test rest) ∙ sym (ap (λ (b : Bool). now ++ cond b (f ∷ filter test rest) (filter test rest)) is) ∙ was
-
-pub filtered_same : (test : Place → Bool) (now rest all : List Place) (f : Place) → now ++ filter test (f ∷ rest) ≡ all → test f ≡ false → now ++ filter test rest ≡ all
-filtered_same test now rest all f was is =
-    sym (ap (λ (b : Bool). now ++ cond b (f ∷ filter test rest) (filter test rest)) is) ∙ was
 
 -- one more holds nothing, or something
 pub held_same : (front : List FileCheck) (c : FileCheck) → holds_nothing c ≡ true → those_held (front ++ c ∷ []) ≡ those_held front

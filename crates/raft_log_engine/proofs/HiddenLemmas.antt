@@ -72,14 +72,6 @@ shown_none m group key none = hidden_none (is_number_key key) (m.value group key
 pub shown_without : (m : Contents) (group : ℕ) → IsWithout m group → IsWithout (shown m) group
 shown_without m group none = (none.0, λ key. shown_none m group key (none.1 key))
 
-hidden_at : (b : Bool) (value : Option (List ℕ)) → b ≡ true → cond b None value ≡ None
-hidden_at true value is = refl
-hidden_at false value is = cc
-
--- the number isn't shown
-pub number_hidden : (m : Contents) (group : ℕ) (key : List ℕ) → is_number_key key ≡ true → (shown m).value group key ≡ None
-number_hidden m group key is = hidden_at (is_number_key key) (m.value group key) is
-
 other_at : (b : Bool) (value : Option (List ℕ)) → b ≡ false → cond b None value ≡ value
 other_at true value other = cc
 other_at false value other = refl

@@ -38,5 +38,6 @@ pub mod RewriteGroupsLemmas
 pub mod Crossing
 pub mod PurgeEventLemmas
 pub mod PurgeCallLemmas
+pub mod PurgeRunLemmas
 pub mod AscendLemmas
 pub mod BlocksLemmas

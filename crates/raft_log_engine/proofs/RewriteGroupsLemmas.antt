@@ -8,17 +8,17 @@ use Rattle.raft_env.specs.Directory.{Directory}
 use Rattle.raft_index_laws.specs.DroppingOld.{AreRewrittenFrom}
 use Rattle.raft_pipes.specs.PipeState.{PipeState}
 use Rattle.raft_queues.specs.Dual.{DualState}
-use Rattle.raft_tables.specs.Table.{TableView}
 use Rattle.raft_tables.specs.Tables.{Tables, or_empty, tables_of}
 use Rattle.raft_tables.specs.declared.memtables.MemTables.{MemTables}
 use Rattle.raft_tables.specs.declared.rewritten.GroupsMet.{GroupsMet}
 use Rattle.raft_crash_laws.specs.Log.{KnownGroups}
 use Rattle.raft_rewrite.specs.Emptied.{MovesOnly}
-use Rattle.raft_rewrite.specs.EmptiedAnew.{HasNoneBefore}
+use Rattle.raft_rewrite.specs.EmptiedAnew.{IsAllFrom}
 use Rattle.raft_purge.specs.RenewalPart.{AreRenewed, GoesOnWith, MayGoOnWith, bound_new, files_behind, files_new, first_kept, first_new}
 use Rattle.raft_purge.specs.UnderWay.{IsUnderWay}
 use Rattle.raft_purge.specs.declared.renewal_groups.NewFiles.{NewFiles}
 use Rattle.raft_purge.specs.declared.renewal_groups.RenewalPart.{RenewalPart}
+use Rattle.raft_purge.proofs.RenewalPartLemmas.{none_of}
 use Rattle.raft_purge_rules.specs.NextGroups.{AreNextGroups, comes_before}
 use Rattle.raft_purge_rules.specs.declared.within_budget.NextGroups.{NextGroups}
 use Rattle.raft_log_engine.specs.Purge.{GoesOnFrom, GoesOnIf, HasRenewedGroups}
@@ -65,18 +65,14 @@ goes_on_if (DropExpired x) files d t met n from goes = tt
 
 -- Of the next groups, of which these are the last ones or not.
 
-none_before : (first : ℕ) (o : Option TableView) → is_some o ≡ false → HasNoneBefore first (or_empty o)
-none_before first None unknown = record { entries = tt; keys = λ key. tt }
-none_before first (Some t) unknown = absurd cc
-
-pub renewed_from : (first from : ℕ) (x : NextGroups) (t t' : Tables) → AreNextGroups from t x → ((group : ℕ) → (list_any (nat_eq group) x.groups.items ≡ true) ⊎ HasNoneBefore first (or_empty (t group)) → HasNoneBefore first (or_empty (t' group))) → MovesOnly None t t' → HasRenewedFrom first from x.next t t'
+pub renewed_from : (first from : ℕ) (x : NextGroups) (t t' : Tables) → AreNextGroups from t x → ((group : ℕ) → (list_any (nat_eq group) x.groups.items ≡ true) ⊎ IsAllFrom first (or_empty (t group)) → IsAllFrom first (or_empty (t' group))) → MovesOnly None t t' → HasRenewedFrom first from x.next t t'
 renewed_from first from x t t' are renewed only = record { emptied = λ k. each k; only = only; known = are.next }
   where
-    at : (k : ℕ) → (nat_le from k && comes_before x.next k) ≡ true → (b : Bool) → is_some (t k) ≡ b → HasNoneBefore first (or_empty (t' k))
+    at : (k : ℕ) → (nat_le from k && comes_before x.next k) ≡ true → (b : Bool) → is_some (t k) ≡ b → IsAllFrom first (or_empty (t' k))
     at k within true there = renewed k (inl (are.each k ∙ rw (there, within) refl))
-    at k within false unknown = renewed k (inr (none_before first (t k) unknown))
+    at k within false unknown = renewed k (inr (none_of first (t k) unknown))
 
-    each : (k : ℕ) → ((nat_le from k && comes_before x.next k) ≡ true) ⊎ HasNoneBefore first (or_empty (t k)) → HasNoneBefore first (or_empty (t' k))
+    each : (k : ℕ) → ((nat_le from k && comes_before x.next k) ≡ true) ⊎ IsAllFrom first (or_empty (t k)) → IsAllFrom first (or_empty (t' k))
     each k (inl within) = at k within (is_some (t k)) refl
     each k (inr none) = renewed k (inr none)
 

@@ -16,6 +16,7 @@ pub mod Once
 pub mod Opening
 pub mod Purge
 pub mod PurgeCalls
+pub mod PurgeRun
 pub mod Recovery
 pub mod RewriteGroups
 pub mod Write

@@ -1,5 +1,5 @@
 -- What purges leave of the queues, and why they fail.
-use Rattle.std.specs.Prelude.{◌≡◌, ◌⊎◌, ◌^◌, ℕ, max, suc, ◌+◌, Bool, true, false, MatchResult, Option, Result, Some, None}
+use Rattle.std.specs.Prelude.{◌≡◌, ◌⊎◌, ◌^◌, ℕ, max, suc, ◌+◌, Bool, true, false, MatchResult, OnErr, OnOk, Option, Result, Some, None}
 use Rattle.raft_base.specs.declared.errors.Fault.{Fault}
 use Rattle.raft_base.specs.declared.errors.Fault.TheVariants as fault
 use Rattle.raft_base.specs.declared.pipe_log.LogQueue.{LogQueue}
@@ -11,12 +11,14 @@ use Rattle.raft_env.specs.Refusal.{FailsAt, Refusals, RoseBy}
 use Rattle.raft_index_laws.specs.DroppingOld.{AreRewrittenFrom}
 use Rattle.raft_pipes.specs.PipeState.{HasLastNumber, PipeState, last_seq}
 use Rattle.raft_pipes.specs.Queue.{NamesLog}
-use Rattle.raft_queues.specs.Dual.{DualState}
+use Rattle.raft_queues.specs.Dual.{DualState, pipe_of}
 use Rattle.raft_records.specs.Contents.{Contents}
+use Rattle.raft_tables.specs.Counters.{deleted_count}
 use Rattle.raft_tables.specs.FirstFiles.{first_of_tables}
 use Rattle.raft_tables.specs.GroupIds.{ids_bound}
 use Rattle.raft_tables.specs.declared.memtables.MemTables.{MemTables}
 use Rattle.raft_tables.specs.declared.rewritten.GroupsMet.{GroupsMet}
+use Rattle.raft_tables.specs.declared.stats.GlobalStats.{GlobalStats}
 use Rattle.raft_crash_laws.specs.Log.{KnownGroups}
 use Rattle.raft_rewrite.specs.Apart.{KeepsOthers}
 use Rattle.raft_stale.specs.Dropping.{HasDroppedOld, HasDroppedSome}
@@ -32,7 +34,6 @@ use Rattle.raft_purge.specs.Scope.{HasEmptied, HasRewritten, watermark_in}
 use Rattle.raft_stale.specs.Scope.{HasLostFront}
 use Rattle.raft_tables.specs.OwedMarks.{owed_of}
 use Rattle.raft_tables.specs.Tables.{Tables, tables_of}
-use Rattle.raft_purge_steps.specs.Steps.{IsLog, LogState, LogValue}
 use Rattle.raft_purge_steps.specs.Unfit.{IsUnfit}
 use Rattle.raft_purge_steps.specs.declared.fault.StepFault.{StepFault}
 use Rattle.raft_log_engine.specs.Engine.{directory_of}
@@ -40,18 +41,16 @@ use Rattle.raft_log_engine.specs.declared.engine.Engine.{Engine}
 use Rattle.raft_log_engine.specs.declared.engine.purge_kind.Purge.{Purge}
 use Rattle.raft_log_engine.specs.declared.engine.purge_kind.Purge.TheVariants.{RewriteAppend, RewriteGroups, RewriteRewrite, RenewGroups, DropStale, DropExpired}
 
--- so many files left the queue of which a purge answers
-abbrev pub HasFreed : Purge → PipeState → PipeState → PipeState → PipeState → ℕ → Type 0
-HasFreed (RewriteAppend scope) append rewrite append' rewrite' count =
-    append.first + count ≡ append'.first
-HasFreed (RewriteGroups x) append rewrite append' rewrite' count =
-    append.first + count ≡ append'.first
-HasFreed RewriteRewrite append rewrite append' rewrite' count =
-    rewrite.first + count ≡ rewrite'.first
-HasFreed (RenewGroups x) append rewrite append' rewrite' count =
-    rewrite.first + count ≡ rewrite'.first
-HasFreed DropStale append rewrite append' rewrite' count = append.first + count ≡ append'.first
-HasFreed (DropExpired x) append rewrite append' rewrite' count = append.first + count ≡ append'.first
+-- the queue of which a purge answers
+abbrev pub queue_freed : Purge → LogQueue
+queue_freed RewriteRewrite = Rewrite
+queue_freed (RenewGroups x) = Rewrite
+queue_freed _ = Append
+
+-- so many files left it
+abbrev pub HasFreed : Purge → DualState → DualState → ℕ → Type 0
+HasFreed purge d d' count = let queue = queue_freed purge in
+    (pipe_of queue d).first + count ≡ (pipe_of queue d').first
 
 -- how many of the batches that a purge writes need not be full: the last one of each rewriting
 abbrev pub rests_of : Purge → ℕ
@@ -103,12 +102,6 @@ HasPurged DropStale together m m' append rewrite append' rewrite' =
 HasPurged (DropExpired x) together m m' append rewrite append' rewrite' =
     HasDroppedExpired x together m' append rewrite append' rewrite'
 
--- the queue of which a purge answers
-abbrev pub queue_freed : Purge → LogQueue
-queue_freed RewriteRewrite = Rewrite
-queue_freed (RenewGroups x) = Rewrite
-queue_freed _ = Append
-
 -- where the queue of which a purge answers begins once that was refused
 abbrev pub HasLostSome : Purge → MemTables → PipeState → PipeState → PipeState → PipeState → Type 0
 HasLostSome (RewriteAppend scope) m append rewrite append' rewrite' = HasLostFront None m append append'
@@ -122,10 +115,10 @@ HasLostSome (DropExpired x) m append rewrite append' rewrite' =
     HasLostFront (Some x.barrier) m append append'
 
 -- where only the Append queue is rewritten, groups that aren't keep their places
-abbrev pub LeavesOthers : Purge → Tables → Tables → Type 0
-LeavesOthers (RewriteGroups x) t t' = KeepsOthers x.groups.items t t'
-LeavesOthers (DropExpired x) t t' = x.renews ≡ false → KeepsOthers x.groups.items t t'
-LeavesOthers _ t t' = Unit {0}
+abbrev pub KeepsOtherGroups : Purge → Tables → Tables → Type 0
+KeepsOtherGroups (RewriteGroups x) t t' = KeepsOthers x.groups.items t t'
+KeepsOtherGroups (DropExpired x) t t' = x.renews ≡ false → KeepsOthers x.groups.items t t'
+KeepsOtherGroups _ t t' = Unit {0}
 
 -- there is nothing to be rewritten
 abbrev pub IsIdlePurge : Purge → Type 0
@@ -217,9 +210,21 @@ IsPurgeFault x append rewrite ends_open unmarked folders fails old new fault.Try
 IsPurgeFault x append rewrite ends_open unmarked folders fails old new e =
     FailsAt (NamesLog folders) old new e
 
--- some log is so
-abbrev pub IsOfSome : LogState → Type 0
-IsOfSome s = ∥ ((v : LogValue) × IsLog s v) ∥₁
+-- what a purge leaves of both queues' files, and what it moves and counts. What is refused has lost those
+-- files at most
+pub record Frees {E : Type 0} (purge : Purge) (result : Result ℕ E) (m m' : MemTables)
+    (stats stats' : GlobalStats) (groups groups' : GroupsMet) (d d' : DualState) : Type 0 where
+  pub files : OnOk result
+      (HasPurged purge groups.together m m' d.append d.rewrite d'.append d'.rewrite)
+  pub first : OnErr result (HasLostSome purge m' d.append d.rewrite d'.append d'.rewrite)
+  pub append : queue_freed purge ≡ Rewrite → d'.append ≡ d.append
+  pub tables : OnOk result (LeavesBehind purge d.append (tables_of m) (tables_of m'))
+  pub apart : OnOk result (KeepsOtherGroups purge (tables_of m) (tables_of m'))
+  pub idle : OnOk result
+      (IsIdlePurge purge → (d' ≡ d) × (m' ≡ m) × (stats' ≡ stats) × (groups' ≡ groups))
+  -- a rewriting of the Rewrite queue counts anew, and a drop of stale files moves and counts nothing
+  pub counted : RewritesOnlyRewrite purge → OnOk result (deleted_count stats' ≡ 0)
+  pub stale : purge ≡ DropStale → (m' ≡ m) × (stats' ≡ stats) × (groups' ≡ groups)
 
 module _ {F H R W : Type 0} {g : Ghosts F H R W} where
   -- the tables of an engine

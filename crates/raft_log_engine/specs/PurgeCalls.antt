@@ -6,7 +6,7 @@ use Rattle.std.specs.Ordering.{nat_cmp}
 use Rattle.std.specs.declared.alloc.Global.{Global}
 use Rattle.raft_base.specs.declared.errors.Fault.{Fault}
 use Rattle.raft_base.specs.declared.errors.Fault.TheVariants as fault
-use Rattle.raft_base.specs.declared.pipe_log.LogQueue.TheVariants.{Append, Rewrite}
+use Rattle.raft_base.specs.declared.pipe_log.LogQueue.TheVariants.{Append}
 use Rattle.raft_base.specs.declared.pipe_log.LogQueue.{LogQueue}
 use Rattle.raft_env.specs.declared.env.FileSystem.{Ghosts}
 use Rattle.raft_listeners.specs.Heard.{HasHeard, Heard}
@@ -18,11 +18,11 @@ use Rattle.raft_stale.specs.Dropping.{KeepsFront}
 use Rattle.raft_stale.specs.Scope.{HasLostFront}
 use Rattle.raft_log_engine.specs.Advance.{ChangesOnlyItsLog, StaysWithin, state_of}
 use Rattle.raft_log_engine.specs.Durability.{Progresses, StaysFailed, durability_of}
-use Rattle.raft_log_engine.specs.Engine.{contents_of, directory_of, durable_of, folders_of, has_failed, queue_of, refusals_of, rewrite_queue_of, has_groups_together, spans_of, unsynced_of}
+use Rattle.raft_log_engine.specs.Engine.{contents_of, directory_of, durable_of, folders_of, has_failed, queue_of, refusals_of, rewrite_queue_of, spans_of, unsynced_of}
 use Rattle.raft_log_engine.specs.Events.{AreRecordsCut, HearsPurge}
 use Rattle.raft_log_engine.specs.Expired.{AsksBarrier, HasPurgedExpired}
 use Rattle.raft_log_engine.specs.Need.{needs_of}
-use Rattle.raft_log_engine.specs.Purge.{HasFreed, HasLastId, HasLostSome, HasOpenGroup, HasPurged, IsFailureCause, IsIdlePurge, IsPurgeFault, LacksId, LeavesBehind, LeavesNewFiles, LeavesOpen, LeavesOthers, OwesTooMuch, RewritesOnlyRewrite, files_behind, next_files, queue_freed}
+use Rattle.raft_log_engine.specs.Purge.{Frees, HasFreed, HasLastId, HasOpenGroup, IsFailureCause, IsPurgeFault, LacksId, LeavesNewFiles, LeavesOpen, OwesTooMuch, files_behind, next_files, queue_freed}
 use Rattle.raft_log_engine.specs.declared.engine.Engine.{Engine}
 use Rattle.raft_log_engine.specs.declared.engine.purge_kind.Purge.{Purge}
 use Rattle.raft_log_engine.specs.declared.engine.purge_kind.Purge.TheVariants.{DropStale, RewriteAppend, RewriteRewrite}
@@ -48,31 +48,16 @@ module _ {F H R W : Type 0} {g : Ghosts F H R W} where
         (rewrite_queue_of new) ends_open (no_id ⊎ OwesTooMuch old new) (folders_of old)
         (has_failed new) (refusals_of old) (refusals_of new))
 
-  -- which files it leaves, how many it answers, and what it moves; it counts no rounds. What is refused
-  -- has lost those files at most
+  -- which files it leaves, how many it answers, and what it moves; it counts no rounds
   pub record FreesFiles (purge : Purge) (result : Result ℕ Fault) (old new : Engine F H R W g)
       : Type 0 where
-    pub value : IfOk result
-        (HasFreed purge (queue_of old) (rewrite_queue_of old) (queue_of new) (rewrite_queue_of new))
-    pub files : OnOk result (HasPurged purge (has_groups_together old) old.tables new.tables
-        (queue_of old) (rewrite_queue_of old) (queue_of new) (rewrite_queue_of new))
-    pub first : OnErr result (HasLostSome purge new.tables
-        (queue_of old) (rewrite_queue_of old) (queue_of new) (rewrite_queue_of new))
-    pub append : queue_freed purge ≡ Rewrite → queue_of new ≡ queue_of old
-    pub tables : OnOk result
-        (LeavesBehind purge (queue_of old) (tables_of old.tables) (tables_of new.tables))
-    pub apart : OnOk result (LeavesOthers purge (tables_of old.tables) (tables_of new.tables))
-    pub idle : OnOk result (IsIdlePurge purge → (new.pipes ≡ old.pipes)
-        × (new.tables ≡ old.tables) × (new.stats ≡ old.stats) × (new.groups ≡ old.groups))
+    pub value : IfOk result (HasFreed purge old.pipes new.pipes)
+    pub freed : Frees purge result old.tables new.tables old.stats new.stats old.groups new.groups
+        old.pipes new.pipes
     pub rounds : new.rounds ≡ old.rounds
     -- short calls that were under way end with it, unless it is the next one of them, or refused
     pub renewal :
         LeavesNewFiles result (files_behind purge (next_files old)) old.renewal new.renewal
-    -- a rewriting of the Rewrite queue counts anew, and a drop of stale files moves and counts nothing
-    pub counted : RewritesOnlyRewrite purge → OnOk result (deleted_count new.stats ≡ 0)
-    pub stale :
-        purge ≡ DropStale
-        → (new.tables ≡ old.tables) × (new.stats ≡ old.stats) × (new.groups ≡ old.groups)
 
   -- one of the `must_` purges
   pub record IsPurge (purge : Purge) (old new : Engine F H R W g) (result : Result ℕ Fault)

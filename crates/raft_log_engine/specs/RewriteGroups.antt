@@ -11,7 +11,7 @@ use Rattle.raft_purge.specs.declared.renewal_groups.NewFiles.{NewFiles}
 use Rattle.raft_purge_rules.specs.NextGroups.{AreNextGroups, FitBudget, comes_before}
 use Rattle.raft_purge_rules.specs.declared.within_budget.NextGroups.{NextGroups}
 use Rattle.raft_rewrite.specs.Emptied.{MovesOnly}
-use Rattle.raft_rewrite.specs.EmptiedAnew.{HasNoneBefore}
+use Rattle.raft_rewrite.specs.EmptiedAnew.{IsAllFrom}
 use Rattle.raft_stale.specs.Dropping.{HasDroppedSome}
 use Rattle.raft_tables.specs.Counters.{deleted_count}
 use Rattle.raft_tables.specs.Tables.{Tables, or_empty, tables_of}
@@ -24,8 +24,8 @@ use Rattle.raft_log_engine.specs.declared.engine.Engine.{Engine}
 -- in the Append queue keeps its place
 pub record HasRenewedFrom (first from : ℕ) (next : Option ℕ) (t t' : Tables) : Type 0 where
   pub emptied : (group : ℕ)
-      → ((nat_le from group && comes_before next group) ≡ true) ⊎ HasNoneBefore first (or_empty (t group))
-      → HasNoneBefore first (or_empty (t' group))
+      → ((nat_le from group && comes_before next group) ≡ true) ⊎ IsAllFrom first (or_empty (t group))
+      → IsAllFrom first (or_empty (t' group))
   pub only : MovesOnly None t t'
   pub known : IfSome next (λ group. (from < group) × (is_some (t group) ≡ true))
 
@@ -62,7 +62,7 @@ module _ {F H R W : Type 0} {g : Ghosts F H R W} where
         ≡ first_left (first_new old) (has_groups_together old) next new.tables (rewrite_queue_of old))
     -- so where the calls of a series left nothing in any of the old files, these are gone
     pub gone : IfOk result (λ next. next ≡ None → has_groups_together old ≡ true
-        → ((group : ℕ) → HasNoneBefore (first_new old) (or_empty (tables_of new.tables group)))
+        → ((group : ℕ) → IsAllFrom (first_new old) (or_empty (tables_of new.tables group)))
         → (rewrite_queue_of new).first ≡ first_new old)
     pub append : queue_of new ≡ queue_of old
     pub lost : OnErr result (HasDroppedSome (first_new old) new.tables

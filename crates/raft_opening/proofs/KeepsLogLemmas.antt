@@ -11,7 +11,7 @@ use Rattle.raft_files.proofs.RecordsCrashLemmas.{kept_beside, kept_created, kept
 use Rattle.raft_files.proofs.SealedLemmas.{sealed_beside}
 use Rattle.raft_files.proofs.CompletedOpeningLemmas.{keeps_completed_created, keeps_completed_opening, keeps_completed_same, keeps_completed_syncing, keeps_completed_truncating}
 use Rattle.raft_pipes.specs.Numbered.{has_file}
-use Rattle.raft_opening.specs.Open.{KeepsLog}
+use Rattle.raft_opening.specs.Open.{KeepsLogFile}
 use Rattle.raft_pipes.proofs.PlacesLemmas.{changed_stands, stands_opening}
 use Rattle.raft_opening.proofs.ReadableLemmas.{readable_unchanged, readable_created, readable_opening, readable_syncing, readable_then, readable_truncating}
 use Rattle.raft_opening.proofs.SealedFileLemmas.{sealed_created, sealed_opening, sealed_syncing, sealed_truncating}
@@ -27,7 +27,7 @@ stands_truncating path size old n (inl same) stood = ap (λ m. has_file m path) 
 stands_truncating path size old n (inr (file, after, is_done, stands, outcome, is)) stood = ap (λ m. has_file m path) is ∙ ap is_some (file_at-placed_same path (cut_to size is_done after file) old)
 
 module _ (path : Path) (id : FileId) where
-  pub keeps_then : (a b n : Directory) → KeepsLog path id a b → KeepsLog path id b n → KeepsLog path id a n
+  pub keeps_then : (a b n : Directory) → KeepsLogFile path id a b → KeepsLogFile path id b n → KeepsLogFile path id a n
   keeps_then a b n first second = record {
     stands = λ stood. second.stands (first.stands stood);
     recovers = λ batches synced kept. second.recovers batches synced (first.recovers batches synced kept);
@@ -36,7 +36,7 @@ module _ (path : Path) (id : FileId) where
     completed = λ past. let later = second.completed past in let earlier = first.completed later.0 in (earlier.0, λ completed. later.1 (earlier.1 completed));
   }
 
-  pub keeps_beside : (a n : Directory) → file_at n path ≡ file_at a path → KeepsLog path id a n
+  pub keeps_beside : (a n : Directory) → file_at n path ≡ file_at a path → KeepsLogFile path id a n
   keeps_beside a n same = record {
     stands = λ stood. ap is_some same ∙ stood;
     recovers = λ batches synced. kept_beside path id batches synced a n same;
@@ -45,7 +45,7 @@ module _ (path : Path) (id : FileId) where
     completed = keeps_completed_same path id a n same;
   }
 
-  pub keeps_created : (a n : Directory) → IsOneOf a (after_create path a) n → KeepsLog path id a n
+  pub keeps_created : (a n : Directory) → IsOneOf a (after_create path a) n → KeepsLogFile path id a n
   keeps_created a n made = record {
     stands = stands_created path a n made;
     recovers = λ batches synced. kept_created path id batches synced a n made;
@@ -54,7 +54,7 @@ module _ (path : Path) (id : FileId) where
     completed = keeps_completed_created path id a n made;
   }
 
-  pub keeps_syncing : (a n : Directory) → HasChanged path IsSyncing a n → KeepsLog path id a n
+  pub keeps_syncing : (a n : Directory) → HasChanged path IsSyncing a n → KeepsLogFile path id a n
   keeps_syncing a n change = record {
     stands = λ stood. changed_stands path IsSyncing a n change ∙ stood;
     recovers = λ batches synced. kept_syncing path id batches synced a n change;
@@ -63,7 +63,7 @@ module _ (path : Path) (id : FileId) where
     completed = keeps_completed_syncing path id a n change;
   }
 
-  pub keeps_truncating : (a n : Directory) (size : ℕ) → size ≡ end_of_scan id (bytes_at path a) → IsTruncating path size a n → KeepsLog path id a n
+  pub keeps_truncating : (a n : Directory) (size : ℕ) → size ≡ end_of_scan id (bytes_at path a) → IsTruncating path size a n → KeepsLogFile path id a n
   keeps_truncating a n size end change = record {
     stands = stands_truncating path size a n change;
     recovers = λ batches synced. kept_truncating path id batches synced a n size end change;
@@ -72,7 +72,7 @@ module _ (path : Path) (id : FileId) where
     completed = keeps_completed_truncating path id a n size end change;
   }
 
-  pub keeps_opening : (a n : Directory) (format : LogFileFormat) → bytes_at path a ≡ [] → IsOpening path format a n → KeepsLog path id a n
+  pub keeps_opening : (a n : Directory) (format : LogFileFormat) → bytes_at path a ≡ [] → IsOpening path format a n → KeepsLogFile path id a n
   keeps_opening a n format empty change = record {
     stands = stands_opening path format a n change;
     recovers = λ batches synced. kept_opening path id batches synced a n format empty change;

@@ -3,24 +3,22 @@ use Rattle.std.proofs.Common.{◌≡◌, ℕ, zero, suc, ◌+◌, ◌-◌, ◌<�
 use Rattle.std.specs.Prelude.{Contains}
 use Rattle.std.specs.List.{AllByRecursion}
 use Rattle.std.proofs.lemmas.List.Elements.{Contains-append_cases}
-use Rattle.std.proofs.lemmas.List.{drop_more}
 use Rattle.std.proofs.Math.Seq.{take-suc}
 use Rattle.raft_base.specs.declared.errors.Fault.{Fault}
 use Rattle.raft_base.specs.declared.errors.Fault.TheVariants as fault
 use Rattle.raft_base.specs.declared.pipe_log.LogQueue.{LogQueue}
 use Rattle.raft_env.specs.Directory.{Directory, IsOneOf, Path, file_at, without_file}
 use Rattle.raft_env.specs.Moments.{HoldsThroughout}
-use Rattle.raft_env.specs.Refusal.{FailsCountedAt, NamesFile, NoFewer, Refusals}
+use Rattle.raft_env.specs.Refusal.{FailsCountedAt, NamesFile, Refusals}
 use Rattle.raft_env.proofs.DirectoryLemmas.{file_at-removed_other}
 use Rattle.raft_env.proofs.MomentsLemmas.{passes_then, passes_weaker}
 use Rattle.raft_config.specs.Folders.{Folders, all_of}
 use Rattle.raft_pipes.specs.Folder.{IsLogPath}
 use Rattle.raft_pipes.specs.Numbered.{IsPathOf}
 use Rattle.raft_pipes.specs.PipeState.{AreNamedFrom, files_from}
-use Rattle.raft_pipes.specs.Purge.{HasDroppedSome, IsDeleteRefusal, deleted_of, is_spared, without_files}
+use Rattle.raft_pipes.specs.Purge.{DeletesSome, IsDeleteRefusal, deleted_of, is_spared, without_files}
 use Rattle.raft_pipes.specs.QueueFiles.{QueueFile, places_of}
 use Rattle.raft_pipes.specs.Spare.{SealedFile}
-use Rattle.raft_pipes.proofs.PipeDoubtLemmas.{counted_later}
 use Rattle.raft_pipes.proofs.PipeNamesLemmas.{is_log_path}
 use Rattle.raft_pipes.proofs.PlacesLemmas.{one_of}
 
@@ -82,18 +80,14 @@ module _ (room : ℕ) (files : List SealedFile) (at : ℕ) (f : SealedFile) (old
       deleted ∙ ap (without_file f.path) before
       ∙ sym (ap (λ ps. without_files ps old) (deleted_then false test) ∙ without_files-append (deleted_of room (take at files)) (f.path ∷ []) old)
 
-  pub dropping_next : is_spared left f.version ≡ false → (n : Directory) → IsOneOf mid (without_file f.path mid) n → HasDroppedSome room files old n
+  pub dropping_next : is_spared left f.version ≡ false → (n : Directory) → IsOneOf mid (without_file f.path mid) n → DeletesSome room files old n
   dropping_next test n (inl same) = (at, omega arith, same ∙ before)
   dropping_next test n (inr deleted) = (at + 1, omega arith, deleted_next test n deleted)
 
-  pub dropping_moments : is_spared left f.version ≡ false → (m0 m1 m2 : List Directory) (new : Directory) → HoldsThroughout m0 m1 mid (HasDroppedSome room files old) → HoldsThroughout m1 m2 new (IsOneOf mid (without_file f.path mid)) → HoldsThroughout m0 m2 new (HasDroppedSome room files old)
+  pub dropping_moments : is_spared left f.version ≡ false → (m0 m1 m2 : List Directory) (new : Directory) → HoldsThroughout m0 m1 mid (DeletesSome room files old) → HoldsThroughout m1 m2 new (IsOneOf mid (without_file f.path mid)) → HoldsThroughout m0 m2 new (DeletesSome room files old)
   dropping_moments test m0 m1 m2 new earlier moments = passes_then _ m0 m1 m2 mid new earlier (passes_weaker _ _ m1 m2 new (dropping_next test) moments)
 
 -- Refusals.
-
-pub delete_refused : (paths : List Path) (at : ℕ) (path : Path) (first before after : Refusals) (e : Fault) → path ≡ get_or paths at path → at < length paths → NoFewer first before → FailsCountedAt (NamesFile path) before after e → IsDeleteRefusal (drop at paths) first after e
-delete_refused paths at path first before after e path_is within rose refused =
-    subst (λ (ps : List Path). IsDeleteRefusal ps first after e) (sym (drop_more paths at path within)) (subst (λ (q : Path). FailsCountedAt (NamesFile q) first after e) path_is (counted_later path first before after e rose refused))
 
 -- the first of those that stay of some front stays of all
 pub front_refused : (count asked : ℕ) (paths : List Path) (first after : Refusals) (e : Fault) → IsDeleteRefusal (drop count (take asked paths)) first after e → IsDeleteRefusal (drop count paths) first after e

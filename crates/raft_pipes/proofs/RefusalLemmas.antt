@@ -1,23 +1,19 @@
 -- Which file a call failed on.
-use Rattle.std.proofs.Common.{◌≡◌, ◌∙◌, ◌<◌, [], suc, length, true, false, Bool, cond, is_some, ap, arith, inl, inr, refl, subst, sym}
+use Rattle.std.proofs.Common.{◌≡◌, ◌∙◌, [], suc, length, true, false, Bool, cond, is_some, ap, arith, inl, inr, refl, subst, sym}
 use Rattle.raft_base.specs.declared.errors.Fault.{Fault}
 use Rattle.raft_base.specs.declared.errors.Fault.TheVariants as fault
 use Rattle.raft_env.specs.Directory.{Directory, HasFile, Path, after_create, file_at, with_file}
 use Rattle.raft_env.specs.Outcomes.{synced_file}
-use Rattle.raft_env.specs.Refusal.{CountsRefusal, FailsCountedAt, IsFaultOf, NamesFile, NoFewer, Refusals, RefusalsRoseForFault}
+use Rattle.raft_env.specs.Refusal.{FailsCountedAt, NamesFile, NoFewer, Refusals, RefusalsRoseForFault}
 use Rattle.raft_env.specs.declared.env.FsFault.{FsFault}
 use Rattle.raft_env.specs.declared.env.FsFault.TheVariants.{Io, Memory}
 use Rattle.raft_env.proofs.DirectoryLemmas.{file_at-placed_same}
-use Rattle.raft_files.specs.Writer.{IsOpening}
-use Rattle.raft_files.specs.declared.format.LogFileFormat.{LogFileFormat}
 use Rattle.raft_config.specs.Folders.{all_of}
 use Rattle.raft_pipes.specs.Numbered.{IsPathOf, has_file, in_queue, path_of}
 use Rattle.raft_pipes.proofs.ApartLemmas.{main_among}
-use Rattle.raft_pipes.specs.Pipe.{IsAppendRefusalOf, IsChangeRefusal}
+use Rattle.raft_pipes.specs.Pipe.{IsChangeRefusal}
 use Rattle.raft_pipes.specs.PipeState.{IsNextPath, PipeState, WritesSameFile, last_seq}
-use Rattle.raft_pipes.specs.Rotation.{IsBeginRefusal, IsNextRefusal, IsRotationRefusal}
-use Rattle.raft_pipes.specs.declared.pipe.AppendFault.{AppendFault}
-use Rattle.raft_pipes.proofs.PlacesLemmas.{stands_opening}
+use Rattle.raft_pipes.specs.Rotation.{IsBeginRefusal, IsRotationRefusal}
 
 -- A next file is begun.
 
@@ -29,17 +25,7 @@ made_stands path n = by_case (is_some (file_at n path)) refl
     by_case true is = ap (λ (b : Bool). has_file (cond b n (with_file path (synced_file []) n)) path) is ∙ is
     by_case false is = ap (λ (b : Bool). has_file (cond b n (with_file path (synced_file []) n)) path) is ∙ ap is_some (file_at-placed_same path (synced_file []) n)
 
--- .. while its header is written
-pub opened_stands : (path there : Path) (format : LogFileFormat) (old made n : Directory) → there ≡ path → made ≡ after_create path old → IsOpening there format made n → HasFile n path
-opened_stands path there format old made n there_is is opening =
-    stands_opening path format made n (subst (λ p. IsOpening p format made n) there_is opening) (ap (λ m. has_file m path) is ∙ made_stands path old)
-
--- a lack of memory that is counted
-pub begin_counted : (path : Path) (n : Directory) (old mid new : Refusals) (f : FsFault) → NoFewer old mid → CountsRefusal f mid new → IsBeginRefusal path n old new f
-begin_counted path n old mid new (Io kind) before h = omega (arith, h.0, before.0)
-begin_counted path n old mid new Memory before h = inl (omega (arith, h.1, before.1))
-
--- .. and one that isn't
+-- a lack of memory that isn't counted
 pub begin_standing : (path : Path) (n : Directory) (old mid new : Refusals) (f : FsFault) → NoFewer old mid → RefusalsRoseForFault f mid new → HasFile n path → IsBeginRefusal path n old new f
 begin_standing path n old mid new (Io kind) before h stands = omega (arith, h.0, before.0)
 begin_standing path n old mid new Memory before h stands = inr stands
@@ -50,27 +36,6 @@ pub close_refused : (path next : Path) (n : Directory) (old new : Refusals) (e :
 close_refused path next n old new (fault.Io kind text) h = (h.0, inl h.1)
 close_refused path next n old new fault.Memory h = inl h
 close_refused path next n old new _ h = absurd h
-
--- the next file isn't begun
-pub next_stopped : (path next : Path) (n : Directory) (old mid new : Refusals) (e : Fault) → NoFewer old mid → IsNextRefusal next n mid new e → IsRotationRefusal path next n old new e
-next_stopped path next n old mid new (fault.Io kind text) before h = (omega (arith, h.0, before.0), inr h.1)
-next_stopped path next n old mid new fault.Memory before (inl more) = inl (omega (arith, more, before.1))
-next_stopped path next n old mid new fault.Memory before (inr stands) = inr stands
-next_stopped path next n old mid new _ before h = absurd h
-
--- An append is refused.
-
-pub write_refused : (path : Path) (old mid new : Refusals) (f : FsFault) (e : Fault) → RefusalsRoseForFault f old mid → (f ≡ Memory → old.memory < mid.memory) → NoFewer mid new → IsFaultOf path f e → FailsCountedAt (NamesFile path) old new e
-write_refused path old mid new (Io kind) e rose counted more (text, is, names) = subst (λ (x : Fault). FailsCountedAt (NamesFile path) old new x) (sym is) (omega (arith, rose.0, more.0), names)
-write_refused path old mid new Memory e rose counted more is = subst (λ (x : Fault). FailsCountedAt (NamesFile path) old new x) (sym is) (omega (arith, counted refl, more.1))
-
-pub file_since : (path : Path) (old mid new : Refusals) (e : Fault) → NoFewer old mid → FailsCountedAt (NamesFile path) mid new e → FailsCountedAt (NamesFile path) old new e
-file_since path old mid new (fault.Io kind text) before h = (omega (arith, h.0, before.0), h.1)
-file_since path old mid new fault.Memory before h = omega (arith, h, before.1)
-file_since path old mid new _ before h = absurd h
-
-pub append_at : (path there : Path) (old new : Refusals) (e : AppendFault) → there ≡ path → IsAppendRefusalOf there old new e → IsAppendRefusalOf path old new e
-append_at path there old new e same = subst (λ p. IsAppendRefusalOf p old new e) same
 
 -- The last file of a pipe, and the one after it, have the same names.
 

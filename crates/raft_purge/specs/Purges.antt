@@ -25,22 +25,22 @@ use Rattle.raft_rewrite.specs.OpenGroup.{HasNoId, IsAtomicRefusal}
 use Rattle.raft_stale.specs.Dropping.{IfFails, KeepsFront}
 
 -- why a purge fails that writes atomic groups: also where no id is left for one
-abbrev pub IsGroupRefusal : GroupsMet → DualState → DualState → Directory → Refusals → Refusals
+abbrev pub IsRenewRefusal : GroupsMet → DualState → DualState → Directory → Refusals → Refusals
     → (Fault → Type 0) → StepFault → Type 0
-IsGroupRefusal groups d d' n' old new IsUnfit =
+IsRenewRefusal groups d d' n' old new IsUnfit =
     IsAtomicRefusal d d' n' old new (λ e. HasNoId groups e ⊎ IsUnfit e)
 
 -- why one fails that writes marks that are owed: also where these, with such tables, have no record
-abbrev pub IsMarkRefusal : Tables → Owed → DualState → DualState → Directory → Refusals → Refusals
+abbrev pub IsOwedRefusal : Tables → Owed → DualState → DualState → Directory → Refusals → Refusals
     → (Fault → Type 0) → StepFault → Type 0
-IsMarkRefusal t owed d d' n' old new IsUnfit =
+IsOwedRefusal t owed d d' n' old new IsUnfit =
     IsPurgeRefusal d d' n' old new (λ e. HaveOwedNoRecord t owed e ⊎ IsUnfit e)
 
 -- .. and atomic groups too
 abbrev pub IsExpiredRefusal : Tables → Owed → GroupsMet → DualState → DualState → Directory → Refusals
     → Refusals → (Fault → Type 0) → StepFault → Type 0
 IsExpiredRefusal t owed groups d d' n' old new IsUnfit =
-    IsGroupRefusal groups d d' n' old new (λ e. HaveOwedNoRecord t owed e ⊎ IsUnfit e)
+    IsRenewRefusal groups d d' n' old new (λ e. HaveOwedNoRecord t owed e ⊎ IsUnfit e)
 
 -- one of these stands in memory for the log
 abbrev pub IsLogBy : {X : Type 0} → (X → LogIndex) → DualState → Directory → LogValue → Type 0
@@ -49,7 +49,7 @@ IsLogBy {X} i d n v = (x : X) × IsLog (log_by d (i x) n) v
 -- what groups have is written to the Rewrite queue again, and the Append queue's pipe is the same. All
 -- batches that were written but one are full, and unless the log is in doubt the blocks that are kept are
 -- the log's
-pub record RewritesGroups {T L : Type 0} {g : Ghosts L} (result : Result T StepFault)
+pub record WritesAgain {T L : Type 0} {g : Ghosts L} (result : Result T StepFault)
     (d d' : DualState) (n' : Directory) (kept' : KeptBlocks) (events events' : PurgeEvents L g)
     : Type 0 where
   pub keeps : KeepsRewriting result d d' events events'
@@ -81,7 +81,7 @@ module _ {F : Type 0} (directory : F → Directory) (moments : F → List Direct
   pub record Renews {L : Type 0} {g : Ghosts L} (result : Result ℕ StepFault) (t t' : Tables)
       (groups groups' : GroupsMet) (d d' : DualState) (kept' : KeptBlocks) (old new : F)
       (events events' : PurgeEvents L g) : Type 0 where
-    pub purges : Purges Rewrite (IsGroupRefusal groups') AddsRest result
+    pub purges : Purges Rewrite (IsRenewRefusal groups') AddsRest result
         (by_marks t (known_groups groups)) (by_marks t' (known_groups groups'))
         d d' kept' old new events events'
     pub others : KeepsOtherPipe Rewrite d d'

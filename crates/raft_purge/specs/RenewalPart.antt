@@ -4,7 +4,7 @@ use Rattle.std.specs.List.{list_any}
 use Rattle.raft_env.specs.Directory.{Directory}
 use Rattle.raft_pipes.specs.PipeState.{PipeState, last_seq}
 use Rattle.raft_queues.specs.Dual.{DualState}
-use Rattle.raft_rewrite.specs.EmptiedAnew.{HasNoneBefore}
+use Rattle.raft_rewrite.specs.EmptiedAnew.{IsAllFrom}
 use Rattle.raft_stale.specs.Dropping.{is_free_before}
 use Rattle.raft_tables.specs.GroupIds.{ids_bound}
 use Rattle.raft_tables.specs.Tables.{Tables, or_empty}
@@ -46,8 +46,8 @@ MayGoOnWith (Some files) d t met n = GoesOnWith files d t met n
 -- stood there
 abbrev pub AreRenewed : ℕ → RenewalPart → Tables → Tables → Type 0
 AreRenewed first part t t' = (group : ℕ)
-    → (list_any (nat_eq group) part.groups.items ≡ true) ⊎ HasNoneBefore first (or_empty (t group))
-    → HasNoneBefore first (or_empty (t' group))
+    → (list_any (nat_eq group) part.groups.items ≡ true) ⊎ IsAllFrom first (or_empty (t group))
+    → IsAllFrom first (or_empty (t' group))
 
 -- with which file the Rewrite queue begins behind the last groups: the old files go all together, where
 -- nothing stands in any and the batches of each atomic group stand together

@@ -7,7 +7,7 @@ use Rattle.raft_base.specs.FileId.{file_signature}
 use Rattle.raft_base.specs.declared.pipe_log.LogFileContext.{LogFileContext}
 use Rattle.raft_base.specs.declared.pipe_log.LogQueue.{LogQueue}
 use Rattle.raft_env.specs.Directory.{Directory}
-use Rattle.raft_queues.specs.Dual.{DualState, HasAppendedIn, HasBoth, HasSyncedIn, StandSideBySide, StillHasBoth, counted, grown, pipe_of}
+use Rattle.raft_queues.specs.Dual.{AppendsIn, DualState, HasBoth, StandSideBySide, StillHasBoth, SyncsIn, counted, grown, pipe_of}
 use Rattle.raft_config.specs.Folders.{Folders}
 use Rattle.raft_pipes.specs.Counts.{QueueCounts}
 use Rattle.raft_pipes.specs.Pipe.{IsPipeOf, IsRecordOf}
@@ -26,11 +26,11 @@ each_stands queue d n stand = ∥∥₁_elim stand ∥∥₁_prop (λ w. (w.3 qu
 pub stand_opened : (d : DualState) (n : Directory) (folders : Folders) (batches : LogQueue → List Batch) (counts : LogQueue → QueueCounts) → HasBoth d folders batches counts n → StandSideBySide d n
 stand_opened d n folders batches counts has = ∣ (folders, batches, counts, has) ∣₁
 
-pub stand_appended : (queue : LogQueue) (sync : Bool) (d d' : DualState) (given : List ℕ) (batch : Batch) (old new : Directory) → HasAppendedIn queue sync d d' given old new → IsRecordOf (pipe_of queue d) given batch → StandSideBySide d old → StandSideBySide d' new
+pub stand_appended : (queue : LogQueue) (sync : Bool) (d d' : DualState) (given : List ℕ) (batch : Batch) (old new : Directory) → AppendsIn queue sync d d' given old new → IsRecordOf (pipe_of queue d) given batch → StandSideBySide d old → StandSideBySide d' new
 stand_appended queue sync d d' given batch old new appended is stand =
     ∥∥₁_map stand (λ w. (w.0, grown queue batch w.1, counted queue sync (grown queue batch w.1) w.2, appended w.0 w.1 w.2 batch w.3 is))
 
-pub stand_synced : (queue : LogQueue) (d d' : DualState) (old new : Directory) → HasSyncedIn queue d d' old new → StandSideBySide d old → StandSideBySide d' new
+pub stand_synced : (queue : LogQueue) (d d' : DualState) (old new : Directory) → SyncsIn queue d d' old new → StandSideBySide d old → StandSideBySide d' new
 stand_synced queue d d' old new synced stand = ∥∥₁_map stand (λ w. (w.0, w.1, counted queue true w.1 w.2, synced w.0 w.1 w.2 w.3))
 
 pub stand_still : (d d' : DualState) (old new : Directory) → StillHasBoth d d' old new → StandSideBySide d old → StandSideBySide d' new

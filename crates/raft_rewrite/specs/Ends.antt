@@ -16,7 +16,7 @@ use Rattle.raft_purge_steps.specs.Faults.{IsPurgeRefusal}
 use Rattle.raft_purge_steps.specs.Unfit.{IsUnfitAnew}
 use Rattle.raft_purge_steps.specs.declared.fault.StepFault.{StepFault}
 use Rattle.raft_rewrite.specs.Emptied.{MovesOnly}
-use Rattle.raft_rewrite.specs.EmptiedAnew.{AreSetFrom, HasNoneBefore, StandsFrom}
+use Rattle.raft_rewrite.specs.EmptiedAnew.{AreSetFrom, IsAllFrom, StandsFrom}
 use Rattle.raft_rewrite.specs.OpenGroup.{EndsGroup, IsOpen}
 use Rattle.raft_rewrite.specs.RenewGathering.{IsRenewed, RecoversRenewal, entries_to_move}
 use Rattle.raft_rewrite.specs.Rewriter.{gather_in}
@@ -46,12 +46,12 @@ module _ {F : Type 0} (directory : F → Directory) (moments : F → List Direct
         → first ≤ last_seq d.rewrite → r.rewriting.watermark ≡ None
         → AreSetFrom first group done placed
         → done ++ entries ≡ entries_to_move (gather_in r d t (directory old)) group
-        → HasNoneBefore first (or_empty (t' group)))
+        → IsAllFrom first (or_empty (t' group)))
     -- .. nor of a group of which nothing was there
     pub moved : OnOk result ((first : ℕ) → first ≤ last_seq d.rewrite
         → r.rewriting.watermark ≡ None → Each (λ item. StandsFrom first item.content) placed
-        → (other : ℕ) → HasNoneBefore first (or_empty (t other))
-        → HasNoneBefore first (or_empty (t' other)))
+        → (other : ℕ) → IsAllFrom first (or_empty (t other))
+        → IsAllFrom first (or_empty (t' other)))
     pub only : OnOk result (MovesOnly r.rewriting.watermark t t')
     pub cause : IfErr result (IsPurgeRefusal d d' (directory new) (refusals_of old)
         (refusals_of new) (IsUnfitAnew

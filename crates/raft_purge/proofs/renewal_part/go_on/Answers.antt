@@ -43,10 +43,21 @@ returns-in-Some-clause-now g c =
     let u = subst (λ (f : Option NewFiles). MayGoOnWith f d t met n) c.in-Some.is c.requires.goes in
     rw c.in-Some.is (λ owed v held. under_way_renewed c.in-Some.files.first (ids_bound c.in-Some.files.groups.ids) d t owed met n v u held)
 
-pub returns-in-Some-clause-any_moment : goal.returns-in-Some-clause-any_moment
-returns-in-Some-clause-any_moment g c = moves_none (λ i v held. here_kept (log_by c.args.pipes.now i (g.F.FileSystem.directory c.args.file_system.now)) v held)
+pub returns-in-Some-clause-rotates : goal.returns-in-Some-clause-rotates
+returns-in-Some-clause-rotates g c = record {
+  others = λ other differs. refl;
+  first = refl;
+  folders = λ queue. refl;
+  now = λ i v held. held;
+  side = c.requires.side;
+  any_moment = moves_none (λ i v held. here_kept (log_by c.args.pipes.now i (g.F.FileSystem.directory c.args.file_system.now)) v held);
+  cause = tt;
+}
 
 -- It begins.
+
+pub returns-in-None-clause-rotates : goal.returns-in-None-clause-rotates
+returns-in-None-clause-rotates g c = c.begin_files.ensures.rotates
 
 pub returns-in-None-clause-value : goal.returns-in-None-clause-value
 returns-in-None-clause-value g c = rw c.in-None.is c.begin_files.ensures.value

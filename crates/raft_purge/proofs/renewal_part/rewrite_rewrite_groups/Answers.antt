@@ -27,7 +27,7 @@ use Rattle.raft_purge_steps.proofs.AnewLemmas.{err_of}
 use Rattle.raft_purge_steps.proofs.FaultLemmas.{each_refusal_since, folders_then, if_ok, if_stands_map, no_fewer_then}
 use Rattle.raft_purge_steps.proofs.RewriterMomentLemmas.{both_ok}
 use Rattle.raft_purge_steps.proofs.StepLemmas.{recovers_then}
-use Rattle.raft_rewrite.specs.EmptiedAnew.{HasNoneBefore}
+use Rattle.raft_rewrite.specs.EmptiedAnew.{IsAllFrom}
 use Rattle.raft_rewrite.specs.OpenGroup.{HasNoId}
 use Rattle.raft_rewrite.proofs.AtomicFaultLemmas.{atomic_since, each_plain_refusal, plain_refusal}
 use Rattle.raft_rewrite.proofs.SpanLemmas.{any_of}
@@ -50,9 +50,9 @@ pub returns-in_err-first-clause-purges : goal.returns-in_err-first-clause-purges
 returns-in_err-first-clause-purges g c =
     let p = err_from_is_err_and c.from_residual.result c.from_residual.ensures.1 in
     rw (p.1, p.2) (record {
-      log = still_err (still_step {T = ℕ} (Err c.in_err-first.field-0.0) (by_marks (tables_of c.args.tables.now) (known_groups c.args.groups.now)) c.in_err-first.ensures.err c.in_err-first.ensures.side c.go_on.ensures.any_moment c.go_on.ensures.found);
+      log = still_err (still_step {T = ℕ} (Err c.in_err-first.field-0.0) (by_marks (tables_of c.args.tables.now) (known_groups c.args.groups.now)) c.in_err-first.ensures.rotates.now c.in_err-first.ensures.rotates.side c.go_on.ensures.rotates.any_moment c.go_on.ensures.found);
       value = tt;
-      front = fails_by ℕ c.in_err-first.field-0.0 _ c.go_on.ensures.first;
+      front = fails_by ℕ c.in_err-first.field-0.0 _ c.go_on.ensures.rotates.first;
       cut = tt;
       holds =
           let d = c.args.pipes.now in
@@ -61,7 +61,7 @@ returns-in_err-first-clause-purges g c =
           let n1 = g.F.FileSystem.directory c.go_on.new.file_system in
           let t = tables_of c.args.tables.now in
           let met = known_groups c.args.groups.now in
-          err_map c.in_err-first.field-0.0 (KeepsEachLog d d1 n n1) _ (λ keeps. ∥∥₁_elim c.requires.some (hlevel props) (λ x. rest_log (log_of d t x.0 met n) (log_of d1 t x.0 met n1) c.args.cache.now (keeps (index_of t x.0 met None)) x.1 x.2 c.requires.holds)) c.in_err-first.ensures.err;
+          err_map c.in_err-first.field-0.0 (KeepsEachLog d d1 n n1) _ (λ keeps. ∥∥₁_elim c.requires.some (hlevel props) (λ x. rest_log (log_of d t x.0 met n) (log_of d1 t x.0 met n1) c.args.cache.now (keeps (index_of t x.0 met None)) x.1 x.2 c.requires.holds)) c.in_err-first.ensures.rotates.now;
       cause =
           let d = c.args.pipes.now in
           let t = tables_of c.args.tables.now in
@@ -71,7 +71,7 @@ returns-in_err-first-clause-purges g c =
           let r0 = g.F.FileSystem.refusals_of c.args.file_system.now in
           let r1 = g.F.FileSystem.refusals_of c.go_on.new.file_system in
           let U : Fault → Type 0 = λ f. HasNoId c.args.groups.now f ⊎ IsUnfitWhere P f in
-          plain_refusal d c.go_on.new.pipes (g.F.FileSystem.directory c.go_on.new.file_system) r0 r1 (λ _. ⊥) U c.in_err-first.field-0.0 (λ f none. absurd none) c.in_err-first.ensures.cause;
+          plain_refusal d c.go_on.new.pipes (g.F.FileSystem.directory c.go_on.new.file_system) r0 r1 (λ _. ⊥) U c.in_err-first.field-0.0 (λ f none. absurd none) c.in_err-first.ensures.rotates.cause;
     })
 
 -- the moments up to the rewriting's end
@@ -83,11 +83,11 @@ renewing g c =
     let n1 = g.F.FileSystem.directory c.go_on.new.file_system in
     let r = renewal_at (first_new c.args.part.now.files c.args.pipes.now.rewrite) (bound_new c.args.part.now.files c.args.groups.now) met in
     let goes : GoesOnRenewal met r = record { none_begun = refl; together = refl; above = c.go_on.ensures.above } in
-    moves_then (moves_weaker (λ k at owed. at (by_marks t met owed)) c.go_on.ensures.any_moment)
-    (λ k at owed v held. recovers_then v n0 n1 k (c.go_on.ensures.any_moment.throughout.here (by_marks t met owed) v held) (at owed r v goes (c.in_ok-first.ensures.now owed v held))) c.rewrite_some.ensures.any_moment
+    moves_then (moves_weaker (λ k at owed. at (by_marks t met owed)) c.go_on.ensures.rotates.any_moment)
+    (λ k at owed v held. recovers_then v n0 n1 k (c.go_on.ensures.rotates.any_moment.throughout.here (by_marks t met owed) v held) (at owed r v goes (c.in_ok-first.ensures.now owed v held))) c.rewrite_some.ensures.any_moment
 
 found : (g : Over) (c : After-rewrite_some g) → AreOfPurge c.args.events.now c.rewrite_some.new.events
-found g c = (c.rewrite_some.ensures.keeps.found.0 ∙ c.go_on.ensures.found.0, c.rewrite_some.ensures.keeps.found.1 ∙ c.go_on.ensures.found.1)
+found g c = (c.rewrite_some.ensures.rewrites.keeps.found.0 ∙ c.go_on.ensures.found.0, c.rewrite_some.ensures.rewrites.keeps.found.1 ∙ c.go_on.ensures.found.1)
 
 pub returns-in_err-rewrite_some-clause-purges : goal.returns-in_err-rewrite_some-clause-purges
 returns-in_err-rewrite_some-clause-purges g c =
@@ -106,9 +106,9 @@ returns-in_err-rewrite_some-clause-purges g c =
             found = found g at;
           };
       value = tt;
-      front = fails_by ℕ c.in_err-rewrite_some.field-0.0 _ (c.rewrite_some.ensures.keeps.first ∙ c.go_on.ensures.first);
+      front = fails_by ℕ c.in_err-rewrite_some.field-0.0 _ (c.rewrite_some.ensures.rewrites.keeps.first ∙ c.go_on.ensures.rotates.first);
       cut = tt;
-      holds = err_map c.in_err-rewrite_some.field-0.0 _ _ (λ rest. rest) c.in_err-rewrite_some.ensures.holds;
+      holds = err_map c.in_err-rewrite_some.field-0.0 _ _ (λ rest. rest) c.in_err-rewrite_some.ensures.rewrites.holds;
       cause =
           let d = c.args.pipes.now in
           let t = tables_of c.args.tables.now in
@@ -120,7 +120,7 @@ returns-in_err-rewrite_some-clause-purges g c =
           let U : Fault → Type 0 = λ f. HasNoId c.rewrite_some.new.groups f ⊎ IsUnfitWhere Q f in
           let U' : Fault → Type 0 = λ f. HasNoId c.rewrite_some.new.groups f ⊎ IsUnfitWhere P f in
           let weaker : (f : Fault) → U f → U' f = λ f h. elim h [ inl none ↦ inl none | inr unfit ↦ inr (λ v held. unfit v (held.0, r, goes, c.in_ok-first.ensures.now held.0 v held.1)) ] in
-          atomic_since d c.go_on.new.pipes c.rewrite_some.new.pipes (g.F.FileSystem.directory c.rewrite_some.new.file_system) r0 r1 (g.F.FileSystem.refusals_of c.rewrite_some.new.file_system) U U' c.in_err-rewrite_some.field-0.0 c.in_ok-first.ensures.folders c.go_on.ensures.any_moment.no_fewer weaker c.in_err-rewrite_some.ensures.cause;
+          atomic_since d c.go_on.new.pipes c.rewrite_some.new.pipes (g.F.FileSystem.directory c.rewrite_some.new.file_system) r0 r1 (g.F.FileSystem.refusals_of c.rewrite_some.new.file_system) U U' c.in_err-rewrite_some.field-0.0 c.in_ok-first.ensures.rotates.folders c.go_on.ensures.rotates.any_moment.no_fewer weaker c.in_err-rewrite_some.ensures.cause;
     })
 
 pub returns-clause-purges : goal.returns-clause-purges
@@ -143,13 +143,13 @@ returns-clause-purges g c =
             found = found g at;
           };
       value =
-          let first = c.in_ok-rewrite_some.ensures.keeps.first in
-          let begins = c.go_on.ensures.first in
+          let first = c.in_ok-rewrite_some.ensures.rewrites.keeps.first in
+          let begins = c.go_on.ensures.rotates.first in
           IfOk-weaker c.leave.result _ _ (λ count is. omega (arith, first, begins, is)) c.leave.ensures.value;
       front =
-          let first = c.rewrite_some.ensures.keeps.first ∙ c.go_on.ensures.first in
+          let first = c.rewrite_some.ensures.rewrites.keeps.first ∙ c.go_on.ensures.rotates.first in
           if_fails_map c.leave.result _ _ (λ same. ap (λ (d : DualState). d.rewrite.first) same ∙ first) c.leave.ensures.front;
-      cut = if_ok c.leave.result _ (λ rests are. c.in_ok-rewrite_some.ensures.cut rests (c.in_ok-first.ensures.cut rests are));
+      cut = if_ok c.leave.result _ (λ rests are. c.in_ok-rewrite_some.ensures.rewrites.cut rests (c.in_ok-first.ensures.cut rests are));
       holds =
           let d2 = c.rewrite_some.new.pipes in
           let n2 = g.F.FileSystem.directory c.rewrite_some.new.file_system in
@@ -160,7 +160,7 @@ returns-clause-purges g c =
           let written = c.in_ok-rewrite_some.ensures.ok in
           if_stands_map c.leave.result (EndsRenewal c.in_ok-first.first t2 met2 d2 c.leave.new.pipes n2 n3) (HoldsRestIn c.leave.new.pipes n3 kept) (λ ends. ∥∥₁_elim c.requires.some (hlevel props) (λ x.
           let held = written x.0 r x.1 goes (c.in_ok-first.ensures.now x.0 x.1 x.2) in
-          (ends x.0 r (reading x.1 kept) (sym is) (sym together) (log_reading (renewed_log d2 t2 x.0 met2 r n2) x.1 kept c.in_ok-rewrite_some.ensures.holds held)).pipes.read)) c.leave.ensures.now;
+          (ends x.0 r (reading x.1 kept) (sym is) (sym together) (log_reading (renewed_log d2 t2 x.0 met2 r n2) x.1 kept c.in_ok-rewrite_some.ensures.rewrites.holds held)).pipes.read)) c.leave.ensures.now;
       cause =
           let d = c.args.pipes.now in
           let t = tables_of c.args.tables.now in
@@ -172,7 +172,7 @@ returns-clause-purges g c =
           let r3 = g.F.FileSystem.refusals_of c.leave.new.file_system in
           let U : Fault → Type 0 = λ f. HasNoId c.rewrite_some.new.groups f ⊎ IsUnfitWhere P f in
           each_plain_refusal c.leave.result d c.leave.new.pipes (g.F.FileSystem.directory c.leave.new.file_system) r0 r3 U U (λ f h. h)
-          (each_refusal_since c.leave.result d c.rewrite_some.new.pipes c.leave.new.pipes (g.F.FileSystem.directory c.leave.new.file_system) r0 r2 r3 (λ _. ⊥) U (folders_then d c.go_on.new.pipes c.rewrite_some.new.pipes c.in_ok-first.ensures.folders c.in_ok-rewrite_some.ensures.keeps.folders) (no_fewer_then r0 r1 r2 c.go_on.ensures.any_moment.no_fewer c.rewrite_some.ensures.any_moment.no_fewer)
+          (each_refusal_since c.leave.result d c.rewrite_some.new.pipes c.leave.new.pipes (g.F.FileSystem.directory c.leave.new.file_system) r0 r2 r3 (λ _. ⊥) U (folders_then d c.go_on.new.pipes c.rewrite_some.new.pipes c.in_ok-first.ensures.rotates.folders c.in_ok-rewrite_some.ensures.rewrites.keeps.folders) (no_fewer_then r0 r1 r2 c.go_on.ensures.rotates.any_moment.no_fewer c.rewrite_some.ensures.any_moment.no_fewer)
           (λ f none. absurd none) c.leave.ensures.cause);
     }
 
@@ -211,9 +211,9 @@ returns-clause-emptied g c =
     let t' = tables_of c.rewrite_some.new.tables in
     let first = first_new c.args.part.now.files c.args.pipes.now.rewrite in
     let low = c.in_ok-first.ensures.within in
-    let each = subst (λ (gs : List ℕ). Each (λ k. HasNoneBefore first (or_empty (t' k))) gs) c.deref.ensures.value (c.in_ok-rewrite_some.ensures.emptied first low) in
+    let each = subst (λ (gs : List ℕ). Each (λ k. IsAllFrom first (or_empty (t' k))) gs) c.deref.ensures.value (c.in_ok-rewrite_some.ensures.emptied first low) in
     if_ok c.leave.result _ (λ group h. elim h [
-      | inl among ↦ any_of (λ k. HasNoneBefore first (or_empty (t' k))) group c.args.part.now.groups.items each among
+      | inl among ↦ any_of (λ k. IsAllFrom first (or_empty (t' k))) group c.args.part.now.groups.items each among
       | inr none ↦ c.in_ok-rewrite_some.ensures.still first group low none
     ])
 
@@ -232,7 +232,7 @@ returns-clause-goes g c =
     let ids = c.rewrite_some.ensures.ids in
     let goes' : GoesOnRenewal met' r = record { none_begun = refl; together = sym c.rewrite_some.ensures.together; above = omega (arith, above, ids) } in
     both_ok c.leave.result _ _ _ (λ keeps still not.
-    let same = ap (λ (d : DualState). d.rewrite.first) (still not) ∙ c.in_ok-rewrite_some.ensures.keeps.first ∙ c.go_on.ensures.first in
+    let same = ap (λ (d : DualState). d.rewrite.first) (still not) ∙ c.in_ok-rewrite_some.ensures.rewrites.keeps.first ∙ c.go_on.ensures.rotates.first in
     let least = c.go_on.ensures.behind in
     under_way_of first bound d' t' met' n' c.requires.some (λ x. still_under_way d' t' x.0 met' r n' x.1 goes' (omega (arith, same, least)) (keeps not (index_of t' x.0 met' (Some r)) x.1 (c.in_ok-rewrite_some.ensures.ok x.0 r x.1 goes (c.in_ok-first.ensures.now x.0 x.1 x.2)))))
     c.leave.ensures.goes c.leave.ensures.still
@@ -241,12 +241,12 @@ returns-clause-goes g c =
 
 pub returns-clause-kept : goal.returns-clause-kept
 returns-clause-kept g c =
-    let first = c.in_ok-rewrite_some.ensures.keeps.first ∙ c.go_on.ensures.first in
+    let first = c.in_ok-rewrite_some.ensures.rewrites.keeps.first ∙ c.go_on.ensures.rotates.first in
     on_ok_weaker c.leave.result (λ still not. ap (λ (d : DualState). d.rewrite.first) (still not) ∙ first) c.leave.ensures.still
 
 pub returns-clause-dropped : goal.returns-clause-dropped
 returns-clause-dropped g c =
-    let first = c.in_ok-rewrite_some.ensures.keeps.first ∙ c.go_on.ensures.first in
+    let first = c.in_ok-rewrite_some.ensures.rewrites.keeps.first ∙ c.go_on.ensures.rotates.first in
     let least = c.go_on.ensures.behind in
     let is = c.in_ok-first.ensures.value in
     on_ok_weaker c.leave.result (λ dropped last. dropped last (omega (arith, first, least, is)) ∙ kept_same c.in_ok-first.first (first_new c.args.part.now.files c.args.pipes.now.rewrite) c.rewrite_some.new.groups.together c.args.groups.now.together c.rewrite_some.new.tables c.rewrite_some.new.pipes.rewrite c.args.pipes.now.rewrite is c.rewrite_some.ensures.together first) c.leave.ensures.dropped
@@ -254,22 +254,33 @@ returns-clause-dropped g c =
 pub returns-clause-span : goal.returns-clause-span
 returns-clause-span g c =
     let t' = tables_of c.rewrite_some.new.tables in
-    let first = c.in_ok-rewrite_some.ensures.keeps.first ∙ c.go_on.ensures.first in
+    let first = c.in_ok-rewrite_some.ensures.rewrites.keeps.first ∙ c.go_on.ensures.rotates.first in
     let least = c.go_on.ensures.behind in
     let is = c.in_ok-first.ensures.value in
     on_ok_weaker c.leave.result (λ gone last together none. gone last (c.rewrite_some.ensures.together ∙ together) (omega (arith, first, least, is)) (subst (λ (k : ℕ). AreRewrittenFrom k t') (sym is) none) ∙ is) c.leave.ensures.span
 
 pub returns-in_err-first-clause-first : goal.returns-in_err-first-clause-first
-returns-in_err-first-clause-first g c = on_err_of c.from_residual.result _ (inl c.go_on.ensures.first)
+returns-in_err-first-clause-first g c = on_err_of c.from_residual.result _ (inl c.go_on.ensures.rotates.first)
 
 pub returns-in_err-rewrite_some-clause-first : goal.returns-in_err-rewrite_some-clause-first
 returns-in_err-rewrite_some-clause-first g c =
-    on_err_of c.from_residual-in_err-rewrite_some.result _ (inl (c.rewrite_some.ensures.keeps.first ∙ c.go_on.ensures.first))
+    on_err_of c.from_residual-in_err-rewrite_some.result _ (inl (c.rewrite_some.ensures.rewrites.keeps.first ∙ c.go_on.ensures.rotates.first))
 
 pub returns-clause-first : goal.returns-clause-first
 returns-clause-first g c =
-    let first = c.rewrite_some.ensures.keeps.first ∙ c.go_on.ensures.first in
+    let first = c.rewrite_some.ensures.rewrites.keeps.first ∙ c.go_on.ensures.rotates.first in
     on_err_of c.leave.result _ (dropped_some_then c.in_ok-first.first (first_new c.args.part.now.files c.args.pipes.now.rewrite) c.rewrite_some.new.tables c.args.pipes.now.rewrite c.rewrite_some.new.pipes.rewrite c.leave.new.pipes.rewrite c.in_ok-first.ensures.value first c.leave.ensures.first)
+
+-- The Append queue's pipe is the same.
+
+pub returns-in_err-first-clause-others : goal.returns-in_err-first-clause-others
+returns-in_err-first-clause-others g c = c.go_on.ensures.rotates.others
+
+pub returns-in_err-rewrite_some-clause-others : goal.returns-in_err-rewrite_some-clause-others
+returns-in_err-rewrite_some-clause-others g c = λ queue other. c.rewrite_some.ensures.rewrites.keeps.others queue other ∙ c.go_on.ensures.rotates.others queue other
+
+pub returns-clause-others : goal.returns-clause-others
+returns-clause-others g c = λ queue other. c.leave.ensures.others queue other ∙ (c.rewrite_some.ensures.rewrites.keeps.others queue other ∙ c.go_on.ensures.rotates.others queue other)
 
 pub returns-clause-stats : goal.returns-clause-stats
 returns-clause-stats g c = if_ok c.leave.result _ c.reset_if.ensures.deleted
@@ -281,4 +292,4 @@ pub returns-clause-folders : goal.returns-clause-folders
 returns-clause-folders g c =
     let d = c.args.pipes.now in
     let mid = c.rewrite_some.new.pipes in
-    on_ok_weaker c.leave.result (folders_then d mid c.leave.new.pipes (folders_then d c.go_on.new.pipes mid c.in_ok-first.ensures.folders c.in_ok-rewrite_some.ensures.keeps.folders)) c.leave.ensures.folders
+    on_ok_weaker c.leave.result (folders_then d mid c.leave.new.pipes (folders_then d c.go_on.new.pipes mid c.in_ok-first.ensures.rotates.folders c.in_ok-rewrite_some.ensures.rewrites.keeps.folders)) c.leave.ensures.folders

@@ -4,6 +4,7 @@ use Rattle.raft_base.specs.declared.errors.Fault.{Fault}
 use Rattle.raft_base.specs.declared.errors.Fault.TheVariants as fault
 use Rattle.raft_purge.proofs.RenewalPartLemmas.{each_none_before, still_none_before}
 use Rattle.std.proofs.Math.Logic.{∥∥₁_map}
+use Rattle.std.specs.Prelude.{Err}
 use Rattle.std.proofs.lemmas.Result.{err_from_is_err_and, on_err_weaker, on_ok_weaker}
 use Rattle.raft_entry_blocks.specs.Cache.{HoldsBlockIn, HoldsRestIn}
 use Rattle.raft_entry_blocks.specs.Recent.{KeptBlocks}
@@ -13,7 +14,7 @@ use Rattle.raft_crash_laws.specs.Log.{known_groups}
 use Rattle.raft_rewrite.specs.Gathering.{gather_of}
 use Rattle.raft_rewrite.specs.RenewGathering.{IsEnded, IsRenewed, RenewsBy}
 use Rattle.raft_purge_steps.specs.Renewing.{GoesOnRenewal, LeavesRenewal, MayRenewLog, renewed_log}
-use Rattle.raft_purge_steps.proofs.KeepingLemmas.{keeps_then}
+use Rattle.raft_purge_steps.proofs.KeepingLemmas.{keeps_read, keeps_then}
 use Rattle.raft_purge.proofs.AnewLemmas.{all_begin}
 use Rattle.raft_purge_steps.proofs.AnewLemmas.{err_of}
 use Rattle.raft_rewrite.proofs.AnewLemmas.{moments_by}
@@ -141,9 +142,6 @@ returns-clause-any_moment g c =
 
 -- Causes.
 
-pub returns-clause-keeps : goal.returns-clause-keeps
-returns-clause-keeps g c = keeps_then c.in_ok-rewrite_each_anew.ensures.rewrites.keeps c.write_anew-written.ensures.keeps
-
 pub returns-clause-cause : goal.returns-clause-cause
 returns-clause-cause g c =
     let d = c.args.pipes.now in
@@ -212,47 +210,59 @@ returns-clause-only g c =
     let one = subst (λ (w : Option ℕ). MovesOnly w t t1) unmarked (each.moved first (omega arith)).2 in
     on_ok_weaker c.write_anew-written.result (λ moved. only_then None t t1 t2 one (subst (λ (w : Option ℕ). MovesOnly w t1 t2) ((each.moved first (omega arith)).0 ∙ unmarked) (moved first each.rewrites.keeps.later).2)) c.write_anew-written.ensures.moved
 
--- The cache.
+-- What it leaves, and the cache.
 
-pub returns-in_err-blocks-clause-holds : goal.returns-in_err-blocks-clause-holds
-returns-in_err-blocks-clause-holds g c =
+pub returns-in_err-blocks-clause-rewrites : goal.returns-in_err-blocks-clause-rewrites
+returns-in_err-blocks-clause-rewrites g c =
     let d = c.args.pipes.now in
     let n = g.F.FileSystem.directory c.args.file_system.now in
-    stands_any c.from_residual.result _ (subst (HoldsRestIn d n) (sym c.in_err-blocks.ensures.err) c.requires.holds)
+    let p = err_from_is_err_and c.from_residual.result c.from_residual.ensures.1 in
+    rw (p.1, p.2) (record {
+      keeps = keeps_read _ _ _;
+      cut = tt;
+      holds = subst (HoldsRestIn d n) (sym c.in_err-blocks.ensures.err) c.requires.holds;
+    })
 
-pub returns-in_err-rewrite_each_anew-clause-holds : goal.returns-in_err-rewrite_each_anew-clause-holds
-returns-in_err-rewrite_each_anew-clause-holds g c =
-    stands_any c.from_residual-in_err-rewrite_each_anew.result _ (rest_none c.rewrite_each_anew.new.pipes (g.F.FileSystem.directory c.rewrite_each_anew.new.file_system) _ c.in_ok-blocks.ensures.emptied)
+pub returns-in_err-rewrite_each_anew-clause-rewrites : goal.returns-in_err-rewrite_each_anew-clause-rewrites
+returns-in_err-rewrite_each_anew-clause-rewrites g c =
+    let kept = c.in_err-rewrite_each_anew.ensures.rewrites.keeps in
+    let p = err_from_is_err_and c.from_residual-in_err-rewrite_each_anew.result c.from_residual-in_err-rewrite_each_anew.ensures.1 in
+    rw (p.1, p.2) (record {
+      keeps = record { others = kept.others; first = kept.first; later = tt; folders = tt; found = kept.found };
+      cut = tt;
+      holds = stands_any {T = Unit {0}} (Err c.in_err-rewrite_each_anew.field-0.0) _ (rest_none c.rewrite_each_anew.new.pipes (g.F.FileSystem.directory c.rewrite_each_anew.new.file_system) _ c.in_ok-blocks.ensures.emptied);
+    })
 
-pub returns-clause-holds : goal.returns-clause-holds
-returns-clause-holds g c =
-    let met = known_groups c.args.groups.now in
-    let met' = known_groups c.rewrite_each_anew.new.groups in
-    let list = c.args.list.now in
-    let s = gather_of c.of_rewrite-rewriter.result.rewriting.watermark c.args.pipes.now (tables_of c.args.tables.now) (g.F.FileSystem.directory c.args.file_system.now) c.of_rewrite-rewriter.result.rewriting.batch.items in
-    let s1 = gather_of c.rewrite_each_anew.new.self.rewriting.watermark c.rewrite_each_anew.new.pipes (tables_of c.rewrite_each_anew.new.tables) (g.F.FileSystem.directory c.rewrite_each_anew.new.file_system) c.rewrite_each_anew.new.self.rewriting.batch.items in
-    let r = c.write_anew-written.result in
-    let d = c.write_anew-written.new.pipes in
-    let n = g.F.FileSystem.directory c.write_anew-written.new.file_system in
-    let s2 = gather_of c.write_anew-written.new.self.rewriting.watermark d (tables_of c.write_anew-written.new.tables) n c.write_anew-written.new.self.rewriting.batch.items in
-    let kept = c.rewrite_each_anew.new.self.cache in
-    let some = some_known met' (IsRenewed [] s1) (some_by met met' (IsRenewed list s) (IsRenewed [] s1) c.in_ok-rewrite_each_anew.ensures.ok (∥∥₁_map c.requires.some (λ x. let owed = x.0 in let r = x.1 in let v = x.2 in let goes = x.3 in let held = x.4 in (owed, r, v, (all_begin list s c.of_rewrite-rewriter.ensures.watermark c.of_rewrite-rewriter.ensures.batch owed met r v goes held))))) in
-    let rest = rest_held s1.pipes s1.files kept c.in_ok-rewrite_each_anew.ensures.rewrites.holds in
-    let same = c.write_anew-written.ensures.cache in
-    subst (λ (k : KeptBlocks). IfStands r (HoldsRestIn d n k)) (sym (c.into_cache.ensures.value ∙ same))
-    (by_answer r _ (on_ok_weaker r (λ holds. subst (HoldsRestIn d n) same (rest_held d n c.write_anew-written.new.self.cache holds)) c.write_anew-written.ensures.holds)
-    (on_err_weaker r (if_stands_map r _ _ (rest_ended [] s1 s2 kept some rest)) c.write_anew-written.ensures.err))
+pub returns-clause-rewrites : goal.returns-clause-rewrites
+returns-clause-rewrites g c = record {
+  keeps = keeps_then c.in_ok-rewrite_each_anew.ensures.rewrites.keeps c.write_anew-written.ensures.keeps;
+  cut =
+      let self = c.rewrite_each_anew.new.self in
+      let batch = self.rewriting.batch.items in
+      let before = written_in c.args.events.now in
+      let begins : (rests : ℕ) → AreCut rests 0 before → AreCut rests (bytes_held c.of_rewrite-rewriter.result.rewriting.batch.items) before = λ rests are. subst (λ (b : Batch). AreCut rests (bytes_held b) before) (sym c.of_rewrite-rewriter.ensures.batch) are in
+      on_ok_weaker c.write_anew-written.result (λ written rests are. adds_last batch (written_in c.rewrite_each_anew.new.events) (written_in c.write_anew-written.new.events) written
+      (cut_small batch (few_held self.held (bytes_held batch) self.counted c.in_ok-rewrite_each_anew.ensures.within)) rests (c.in_ok-rewrite_each_anew.ensures.rewrites.cut rests (begins rests are))) c.write_anew-written.ensures.written;
+  holds =
+      let met = known_groups c.args.groups.now in
+      let met' = known_groups c.rewrite_each_anew.new.groups in
+      let list = c.args.list.now in
+      let s = gather_of c.of_rewrite-rewriter.result.rewriting.watermark c.args.pipes.now (tables_of c.args.tables.now) (g.F.FileSystem.directory c.args.file_system.now) c.of_rewrite-rewriter.result.rewriting.batch.items in
+      let s1 = gather_of c.rewrite_each_anew.new.self.rewriting.watermark c.rewrite_each_anew.new.pipes (tables_of c.rewrite_each_anew.new.tables) (g.F.FileSystem.directory c.rewrite_each_anew.new.file_system) c.rewrite_each_anew.new.self.rewriting.batch.items in
+      let r = c.write_anew-written.result in
+      let d = c.write_anew-written.new.pipes in
+      let n = g.F.FileSystem.directory c.write_anew-written.new.file_system in
+      let s2 = gather_of c.write_anew-written.new.self.rewriting.watermark d (tables_of c.write_anew-written.new.tables) n c.write_anew-written.new.self.rewriting.batch.items in
+      let kept = c.rewrite_each_anew.new.self.cache in
+      let some = some_known met' (IsRenewed [] s1) (some_by met met' (IsRenewed list s) (IsRenewed [] s1) c.in_ok-rewrite_each_anew.ensures.ok (∥∥₁_map c.requires.some (λ x. let owed = x.0 in let r = x.1 in let v = x.2 in let goes = x.3 in let held = x.4 in (owed, r, v, (all_begin list s c.of_rewrite-rewriter.ensures.watermark c.of_rewrite-rewriter.ensures.batch owed met r v goes held))))) in
+      let rest = rest_held s1.pipes s1.files kept c.in_ok-rewrite_each_anew.ensures.rewrites.holds in
+      let same = c.write_anew-written.ensures.cache in
+      subst (λ (k : KeptBlocks). IfStands r (HoldsRestIn d n k)) (sym (c.into_cache.ensures.value ∙ same))
+      (by_answer r _ (on_ok_weaker r (λ holds. subst (HoldsRestIn d n) same (rest_held d n c.write_anew-written.new.self.cache holds)) c.write_anew-written.ensures.holds)
+      (on_err_weaker r (if_stands_map r _ _ (rest_ended [] s1 s2 kept some rest)) c.write_anew-written.ensures.err));
+}
 
 -- How it is cut.
 
 pub rewrite_each_anew-requires-clause-within : goal.rewrite_each_anew-requires-clause-within
 rewrite_each_anew-requires-clause-within g c = λ κs within. let none = c.of_rewrite-rewriter.ensures.held in omega (arith, none)
-
-pub returns-clause-cut : goal.returns-clause-cut
-returns-clause-cut g c =
-    let self = c.rewrite_each_anew.new.self in
-    let batch = self.rewriting.batch.items in
-    let before = written_in c.args.events.now in
-    let begins : (rests : ℕ) → AreCut rests 0 before → AreCut rests (bytes_held c.of_rewrite-rewriter.result.rewriting.batch.items) before = λ rests are. subst (λ (b : Batch). AreCut rests (bytes_held b) before) (sym c.of_rewrite-rewriter.ensures.batch) are in
-    on_ok_weaker c.write_anew-written.result (λ written rests are. adds_last batch (written_in c.rewrite_each_anew.new.events) (written_in c.write_anew-written.new.events) written
-    (cut_small batch (few_held self.held (bytes_held batch) self.counted c.in_ok-rewrite_each_anew.ensures.within)) rests (c.in_ok-rewrite_each_anew.ensures.rewrites.cut rests (begins rests are))) c.write_anew-written.ensures.written

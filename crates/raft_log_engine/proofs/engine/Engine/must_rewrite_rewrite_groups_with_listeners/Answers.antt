@@ -41,7 +41,7 @@ pub returns-in_err-answer_purge-clause-groups : goal.returns-in_err-answer_purge
 returns-in_err-answer_purge-clause-groups g c =
     let p = err_from_is_err_and c.from_residual.result c.from_residual.ensures.1 in
     let files = c.in_err-answer_purge.ensures.files in
-    rw (p.1, p.2) (record { renewed = tt; fits = tt; renewal = files.renewal; rewrite = tt; gone = tt; append = files.append refl; lost = files.first; counted = tt; rounds = files.rounds })
+    rw (p.1, p.2) (record { renewed = tt; fits = tt; renewal = files.renewal; rewrite = tt; gone = tt; append = files.freed.append refl; lost = files.freed.first; counted = tt; rounds = files.rounds })
 
 pub returns-in_err-answer_purge-clause-told : goal.returns-in_err-answer_purge-clause-told
 returns-in_err-answer_purge-clause-told g c =
@@ -64,18 +64,19 @@ returns-clause-groups g c =
     let old = c.args.self.now in
     let new = c.answer_purge.new.self in
     let found = c.in-Ok.found in
-    let freed = c.in_ok-answer_purge.ensures.files in
+    let done = c.in_ok-answer_purge.ensures.files in
+    let freed = done.freed in
     let left = freed.files.0 in
     let is = c.is_none.ensures in
     let last = c.is_none.result in
     record {
       renewed = renewed_from (first_new old) c.args.from found (tables_of old.tables) (tables_of new.tables) c.in-Ok.ensures.value left.emptied freed.tables;
       fits = (found, refl, c.in-Ok.ensures.ascending, c.in-Ok.ensures.value, c.in-Ok.ensures.budget);
-      renewal = freed.renewal ∙ behind_is last found.next (files_new old) is;
+      renewal = done.renewal ∙ behind_is last found.next (files_new old) is;
       rewrite = begins_with last found.next (first_new old) (has_groups_together old) new.tables (rewrite_queue_of old) (rewrite_queue_of new) is left.kept left.dropped;
       gone = λ none together each. left.gone (last_of last found.next is none) together (record { entries = λ group. (each group).entries; keys = λ group key. (each group).keys key });
       append = freed.append refl;
       lost = tt;
       counted = λ none. freed.counted (last_of last found.next is none);
-      rounds = freed.rounds;
+      rounds = done.rounds;
     }

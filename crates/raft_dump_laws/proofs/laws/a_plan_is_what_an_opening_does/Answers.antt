@@ -1,5 +1,5 @@
-use Rattle.raft_outlook.proofs.PlanLemmas.{plan_fails, plan_opens, plan_read, plan_refused}
-use Rattle.raft_outlook.proofs.laws.a_plan_is_what_an_opening_does.Goals as goal
+use Rattle.raft_dump_laws.proofs.PlanLemmas.{plan_fails, plan_opens, plan_read, plan_refused}
+use Rattle.raft_dump_laws.proofs.laws.a_plan_is_what_an_opening_does.Goals as goal
 
 pub returns-clause-opens : goal.returns-clause-opens
 returns-clause-opens c = plan_opens

@@ -10,8 +10,8 @@ ghost use Rattle.raft_pipes.specs.Numbered.{kept_files, paths_of};
 ghost use Rattle.raft_dump.specs.Check.{AreLastToRise, plan_of};
 ghost use Rattle.raft_dump.specs.declared.check.FileCheck.{FileCheck};
 ghost use Rattle.raft_dump.specs.declared.plan.Planned.TheVariants.{Fail};
-ghost use Rattle.raft_outlook.specs.Outlook.{AreChecksIn, AreReadAs};
-ghost use Rattle.raft_outlook.specs.Passed.{AreAllOf, IsDoubledAt, numbers_in};
+ghost use Rattle.raft_dump_laws.specs.Planned.{AreChecksIn, AreReadAs};
+ghost use Rattle.raft_dump_laws.specs.Passed.{AreAllOf, IsDoubledAt, numbers_in};
 
 /// Of files of a queue, by the bytes at their paths, and what a check tells of each: where no file is planned to fail,
 /// an opening finds no damage in them (`opens`), and it finds them as planned (`read`); where one is planned to fail, it

@@ -15,8 +15,8 @@ use Rattle.raft_dump.specs.Check.{plan_of, planned_stop}
 use Rattle.raft_dump.specs.declared.check.FileCheck.{FileCheck}
 use Rattle.raft_dump.specs.declared.plan.Planned.{Planned}
 use Rattle.raft_dump.specs.declared.plan.Planned.TheVariants.{Fail}
-use Rattle.raft_outlook.specs.Outlook.{AreChecksIn, AreReadAs, IsReadAs}
-use Rattle.raft_outlook.proofs.CheckedLemmas.{IsJudged, damage_bars, judged_in}
+use Rattle.raft_dump_laws.specs.Planned.{AreChecksIn, AreReadAs, IsReadAs}
+use Rattle.raft_dump_laws.proofs.CheckedLemmas.{IsJudged, damage_bars, judged_in}
 
 -- Plans that fail somewhere.
 

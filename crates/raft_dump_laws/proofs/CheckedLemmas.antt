@@ -27,7 +27,7 @@ use Rattle.raft_dump.specs.Check.{EndsReading, IsReadFrom, IsReadIn, planned_sto
 use Rattle.raft_dump.specs.declared.check.FileCheck.{FileCheck}
 use Rattle.raft_dump.specs.declared.plan.Planned.{Planned}
 use Rattle.raft_dump.specs.declared.plan.Planned.TheVariants.{Cut, Fail}
-use Rattle.raft_outlook.specs.Outlook.{IsReadAs}
+use Rattle.raft_dump_laws.specs.Planned.{IsReadAs}
 
 -- Records that a check reads, one after the other.
 

@@ -7,7 +7,7 @@ use Rattle.raft_env.specs.Directory.{Directory, Path}
 use Rattle.raft_pipes.specs.Numbered.{AreNumbered, IsRun, end_of_numbers, kept_files, paths_of}
 use Rattle.raft_pipes.proofs.NumberedLemmas.{kept-numbered}
 use Rattle.raft_dump.specs.Check.{AreLastToRise, RisesAt}
-use Rattle.raft_outlook.specs.Passed.{AreAllOf, AreByNumber, IsDoubledAt, numbers_in, paths_with}
+use Rattle.raft_dump_laws.specs.Passed.{AreAllOf, AreByNumber, IsDoubledAt, numbers_in, paths_with}
 
 -- the files have the numbers from this one on
 abbrev HaveNumbers : ℕ → List (ℕ × Path) → Type 0

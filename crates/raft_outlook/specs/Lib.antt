@@ -1,2 +1,0 @@
-pub mod Outlook
-pub mod Passed
