@@ -8,21 +8,43 @@ ghost use Rattle.raft_memory.specs.Counted.{by_storage};
 use crate::file_bytes::FileBytes;
 use raft_env::{FsFault, IoKind};
 
-#[derive(Drop)]
 pub struct MemoryHandle {
     pub(crate) path: String,
     pub(crate) may_write: bool,
 }
 
-#[derive(Drop)]
+// Proved once; derived, it would be proved in each crate that owns one (docs/DECISIONS.md).
+impl Drop for MemoryHandle {
+    fn drop(self) {
+        let MemoryHandle {
+            path: _path,
+            may_write: _,
+        } = self;
+    }
+}
+
 pub struct MemoryReader {
     pub(crate) path: String,
     pub(crate) refused: u64,
 }
 
-#[derive(Drop)]
+impl Drop for MemoryReader {
+    fn drop(self) {
+        let MemoryReader {
+            path: _path,
+            refused: _,
+        } = self;
+    }
+}
+
 pub struct MemoryWriter {
     pub(crate) path: String,
+}
+
+impl Drop for MemoryWriter {
+    fn drop(self) {
+        let MemoryWriter { path: _path } = self;
+    }
 }
 
 impl MemoryReader {

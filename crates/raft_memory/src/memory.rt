@@ -13,7 +13,6 @@ use std::collections::{BTreeMap, BTreeSet};
 
 /// Files by their paths, in memory. It shows its files as `memory_directory` and its moments as
 /// `memory_moments`.
-#[derive(Drop)]
 pub struct MemoryFileSystem {
     pub(crate) alloc: Global,
     pub(crate) namespace: Namespace,
@@ -27,6 +26,21 @@ pub struct MemoryFileSystem {
     ghost consistent: { AreConsistent (namespace_directory namespace) } by { Prim.hlevel (props, past_prop) },
     ghost only_writes: { OnlyWritesFailedIn
         (namespace_directory namespace) } by { Prim.hlevel props },
+}
+
+// One call in a proof that drops it; derived, it would be one of each field (docs/DECISIONS.md).
+impl Drop for MemoryFileSystem {
+    fn drop(self) {
+        let MemoryFileSystem {
+            alloc: _,
+            namespace: _namespace,
+            past: _past,
+            refusals: _refusals,
+            armed: _armed,
+            free: _free,
+            metadata: _metadata,
+        } = self;
+    }
 }
 
 impl MemoryFileSystem {
