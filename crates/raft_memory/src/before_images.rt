@@ -4,13 +4,18 @@ ghost use Rattle.std.specs.Option.{option_or};
 ghost use Rattle.raft_env.specs.Outcomes.{is_within};
 ghost use Rattle.raft_memory.specs.MemoryFile.{before_image_at};
 
+use crate::file_bytes::bytes_from;
 use std::alloc::{AllocError, Global};
 use std::marker::Model;
+use std::mem;
 
 /// What is kept of the room for bytes, and for places.
 const KEPT_BYTES: usize = 64 << 10;
 
 const KEPT_PLACES: usize = 1 << 10;
+
+/// What one file leaves to the next of its room for bytes.
+const LEFT_BYTES: usize = 16 << 20;
 
 /// Bytes by their places in a file. A place that was saved twice has the byte of the first time.
 #[derive(Drop)]
@@ -42,9 +47,16 @@ impl BeforeImages {
         }
     }
 
-    /// Saves what stands between two places. What stands after the end is a zero.
+    /// Saves what stands between two places. What stands after the end is a zero. The first bytes
+    /// go into the room that another file left, where that is greater.
     #[inline(always)]
-    pub(crate) fn save(&mut self, bytes: &[u8], from: usize, end: usize) -> Result<(), AllocError>
+    pub(crate) fn save(
+        &mut self,
+        bytes: &[u8],
+        from: usize,
+        end: usize,
+        room: &mut Vec<u8>,
+    ) -> Result<(), AllocError>
         ensures ok { OnOk result ((i : ℕ) → before_image_at self.new i
             ≡ option_or (before_image_at self.old i)
             (if is_within from (end - from) i then Some (slice_index bytes.now i) else None)) }
@@ -54,6 +66,7 @@ impl BeforeImages {
             return Ok(());
         }
         self.places.reserve(1)?;
+        take_room(&mut self.bytes, room);
         push_part(&mut self.bytes, bytes, from, end - from)?;
         let Ok(()) = self.places.push((from, end - from)) else {
             unreachable!()
@@ -61,12 +74,13 @@ impl BeforeImages {
         Ok(())
     }
 
-    /// Forgets all. A log has many files, so a great room is given back.
-    pub(crate) fn clear(&mut self)
+    /// Forgets all. A log has many files, so a great room is left to the next one.
+    pub(crate) fn clear(&mut self, room: &mut Vec<u8>)
         ensures { (i : ℕ) → before_image_at self.new i ≡ None }
     {
         self.places.clear();
         self.places.shrink_to(KEPT_PLACES);
+        leave_room(&mut self.bytes, room);
         self.bytes.clear();
         self.bytes.shrink_to(KEPT_BYTES);
     }
@@ -88,8 +102,51 @@ impl BeforeImages {
     }
 }
 
+// Where nothing is saved yet the greater room is taken, which was touched before.
+#[inline(always)]
+fn take_room(bytes: &mut Vec<u8>, room: &mut Vec<u8>)
+    ensures { bytes.new.items ≡ bytes.old.items }
+{
+    if bytes.is_empty() && bytes.capacity() < room.capacity() {
+        room.clear();
+        mem::swap(bytes, room);
+    }
+}
+
+// The greater room is left. What stood in either is lost.
+fn leave_room(bytes: &mut Vec<u8>, room: &mut Vec<u8>) {
+    if room.capacity().max(KEPT_BYTES) < bytes.capacity() {
+        mem::swap(bytes, room);
+        room.clear();
+        room.shrink_to(LEFT_BYTES);
+    }
+}
+
 // Appends so many bytes from that place on, with zeros for those after the end.
 fn push_part(saved: &mut Vec<u8>, bytes: &[u8], from: usize, size: usize) -> Result<(), AllocError>
+    ensures ok { OnOk result (length saved.new.items ≡ length saved.old.items + size) }
+    ensures unchanged { OnOk result ((i : ℕ) → i < length saved.old.items
+        → slice_index saved.new.items i ≡ slice_index saved.old.items i) }
+    ensures contents { OnOk result ((i : ℕ) → i < size
+        → slice_index saved.new.items (length saved.old.items + i)
+        ≡ slice_index bytes.now (from + i)) }
+    ensures err { OnErr result (saved.new.items ≡ saved.old.items) }
+{
+    let rest = bytes_from(bytes, from);
+    if rest.len() < size {
+        return push_padded(saved, bytes, from, size);
+    }
+    saved.extend_from_slice(&rest[..size])?;
+    Ok(())
+}
+
+// As `push_part`, of bytes that may end before that.
+fn push_padded(
+    saved: &mut Vec<u8>,
+    bytes: &[u8],
+    from: usize,
+    size: usize,
+) -> Result<(), AllocError>
     ensures ok { OnOk result (length saved.new.items ≡ length saved.old.items + size) }
     ensures unchanged { OnOk result ((i : ℕ) → i < length saved.old.items
         → slice_index saved.new.items i ≡ slice_index saved.old.items i) }

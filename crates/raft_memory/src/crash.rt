@@ -97,7 +97,11 @@ impl Namespace {
             )?;
             turn += 1;
         }
-        Ok(Namespace { files, folders })
+        Ok(Namespace {
+            files,
+            folders,
+            room: Vec::new(alloc),
+        })
     }
 }
 

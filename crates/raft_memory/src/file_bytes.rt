@@ -139,8 +139,8 @@ impl FileBytes {
     }
 }
 
-// None where the place is past the end.
-fn bytes_from(bytes: &[u8], at: usize) -> &[u8]
+/// None where the place is past the end.
+pub(crate) fn bytes_from(bytes: &[u8], at: usize) -> &[u8]
     ensures { result.now ≡ drop at bytes.now }
 {
     bytes.get(at..).unwrap_or(&[])

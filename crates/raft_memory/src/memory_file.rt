@@ -59,7 +59,8 @@ impl MemoryFile {
         &self.bytes
     }
 
-    /// A write of `given`, of which `kept` reached the file.
+    /// A write of `given`, of which `kept` reached the file. What one file saves goes into the
+    /// room that another left.
     #[inline(always)]
     pub(crate) fn write(
         &mut self,
@@ -67,6 +68,7 @@ impl MemoryFile {
         given: &[u8],
         kept: &[u8],
         is_done: bool,
+        room: &mut Vec<u8>,
     ) -> Result<(), AllocError>
         requires fits { at + length given.now < 2 ^ 63 }
         requires part { length kept.now ≤ length given.now }
@@ -76,7 +78,7 @@ impl MemoryFile {
     {
         self.ranges.reserve(1)?;
         let end = self.synced_stored.min(at + given.len());
-        self.saved.save(self.bytes.stored(), at, end)?;
+        self.saved.save(self.bytes.stored(), at, end, room)?;
         self.bytes.overlay(at, kept)?;
         add_range(&mut self.ranges, at, given.len());
         self.least = self.least.min(self.bytes.len());
@@ -94,14 +96,14 @@ impl MemoryFile {
 }
 
 impl MemoryFile {
-    pub(crate) fn cut(&mut self, size: usize) -> Result<(), AllocError>
+    pub(crate) fn cut(&mut self, size: usize, room: &mut Vec<u8>) -> Result<(), AllocError>
         ensures ok { OnOk result (self.new ≡ file_after_resize (take size self.old.now) self.old) }
         ensures err { OnErr result (self.new ≡ self.old) }
     {
         self.ranges.reserve(1)?;
         let from = size.min(self.bytes.len());
         self.saved
-            .save(self.bytes.stored(), from, self.synced_stored)?;
+            .save(self.bytes.stored(), from, self.synced_stored, room)?;
         add_range(&mut self.ranges, from, self.bytes.len() - from);
         self.bytes.truncate(from);
         self.least = self.least.min(from);
@@ -128,10 +130,10 @@ impl MemoryFile {
     }
 
     /// Takes no time for the bytes.
-    pub(crate) fn sync(&mut self)
+    pub(crate) fn sync(&mut self, room: &mut Vec<u8>)
         ensures { self.new ≡ synced_of self.old }
     {
-        self.saved.clear();
+        self.saved.clear(room);
         self.synced_len = self.bytes.len();
         self.synced_stored = self.bytes.stored().len();
         self.ranges.clear();

@@ -16,6 +16,8 @@ pub(crate) type Files = BTreeMap<String, MemoryFile>;
 pub(crate) struct Namespace {
     pub(crate) files: Files,
     pub(crate) folders: Vec<String>,
+    /// Room for what a file wrote over since its last sync: one leaves it to the next.
+    pub(crate) room: Vec<u8>,
 }
 
 impl Namespace {
@@ -28,6 +30,7 @@ impl Namespace {
         Namespace {
             files: BTreeMap::new(alloc),
             folders: Vec::new(alloc),
+            room: Vec::new(alloc),
         }
     }
 
@@ -99,7 +102,7 @@ impl Namespace {
     {
         match self.files.get_mut(path) {
             Some(file) => {
-                file.write(at, given, kept, is_done)?;
+                file.write(at, given, kept, is_done, &mut self.room)?;
                 Ok(())
             }
             None => Err(FsFault::Io(IoKind::NotFound)),
@@ -112,7 +115,7 @@ impl Namespace {
     {
         match self.files.get_mut(path) {
             Some(file) => {
-                file.cut(size)?;
+                file.cut(size, &mut self.room)?;
                 Ok(())
             }
             None => Err(FsFault::Io(IoKind::NotFound)),
@@ -139,7 +142,7 @@ impl Namespace {
     {
         match self.files.get_mut(path) {
             Some(file) => {
-                file.sync();
+                file.sync(&mut self.room);
                 Ok(())
             }
             None => Err(FsFault::Io(IoKind::NotFound)),

@@ -60,6 +60,7 @@ impl Namespace {
         Ok(Namespace {
             files: placed,
             folders,
+            room: Vec::new(alloc),
         })
     }
 }

@@ -17,14 +17,14 @@ use Rattle.raft_memory.proofs.namespace.Namespace.crashed.Goals as goal
 pub returns-clause-ok : goal.returns-clause-ok
 returns-clause-ok c =
     let all : map deref_pair c.loop-path.yielded ≡ c.args.self.now.files.entries = grind (arith, common_steps, append-nil, c.in-None.ensures.steps, c.loop-path.invariant.whole) in
-    restarted (left_by c.args.choices.now (namespace_directory c.args.self.now)) c.args.self.now (record { files = c.loop-path.files; folders = c.in_ok-folders.folders })
+    restarted (left_by c.args.choices.now (namespace_directory c.args.self.now)) c.args.self.now (record { files = c.loop-path.files; folders = c.in_ok-folders.folders; room = c.args.self.now.room })
     (subst (λ l. Copied (IsLeft (left_by c.args.choices.now (namespace_directory c.args.self.now))) l c.loop-path.files) all c.loop-path.invariant.copied)
     (c.in_ok-folders.ensures ∙ ap (map string_bytes) c.deref.ensures.value)
 
 pub returns-clause-crash : goal.returns-clause-crash
 returns-clause-crash c =
     let all : map deref_pair c.loop-path.yielded ≡ c.args.self.now.files.entries = grind (arith, common_steps, append-nil, c.in-None.ensures.steps, c.loop-path.invariant.whole) in
-    leaves_all (left_by c.args.choices.now (namespace_directory c.args.self.now)) c.args.self.now (record { files = c.loop-path.files; folders = c.in_ok-folders.folders })
+    leaves_all (left_by c.args.choices.now (namespace_directory c.args.self.now)) c.args.self.now (record { files = c.loop-path.files; folders = c.in_ok-folders.folders; room = c.args.self.now.room })
     (subst (λ l. Copied (IsLeft (left_by c.args.choices.now (namespace_directory c.args.self.now))) l c.loop-path.files) all c.loop-path.invariant.copied)
 
 pub loop-path-preserved : goal.loop-path-preserved
