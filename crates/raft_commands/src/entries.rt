@@ -88,8 +88,9 @@ pub(crate) fn list<F: FileSystem>(
     out: &mut Output,
 ) -> Result<bool> {
     let begin = indexes.from.or(engine.first_index(group)).unwrap_or(0);
-    let end = behind(indexes.to.or(engine.last_index(group)), begin)
-        .min(begin.saturating_add(indexes.limit.unwrap_or(u64::MAX)));
+    let end = behind(indexes.to.or(engine.last_index(group)), begin).min(begin.saturating_add(
+        indexes.limit.unwrap_or(u64::MAX),
+    ));
     let mut next = begin;
     for _ in 0..u64::MAX {
         if next >= end {

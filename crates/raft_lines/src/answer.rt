@@ -105,7 +105,10 @@ fn print_groups<W: Write>(output: &mut W, word: &[u8], groups: &[u64]) -> io::Re
 fn print_pairs<W: Write>(output: &mut W, pairs: &[KeyAndValue]) -> io::Result<()> {
     let (front, space, newline) = (b"pair ".as_slice(), b" ".as_slice(), b"\n".as_slice());
     for (key, value) in pairs {
-        print_parts(output, &[front, key.as_slice(), space, value.as_slice(), newline])?;
+        print_parts(
+            output,
+            &[front, key.as_slice(), space, value.as_slice(), newline],
+        )?;
     }
     let count = pairs.len();
     writeln!(output, "end {count}")

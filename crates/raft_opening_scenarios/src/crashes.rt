@@ -242,6 +242,9 @@ fn synced_keys_are_found_after_crashes(rt: HostRuntime) -> Result<(), Fail> {
     let wrong = crashes_in(rt, folder.as_str());
     let removed = fs::remove_dir_all(&rt, folder.as_str());
     let Wrong { counted, uncounted } = wrong?;
-    assert!(rt; counted == 0 && uncounted == 5, "{counted} wrong, {uncounted} without syncs");
+    assert!(rt;
+        counted == 0 && uncounted == 5,
+        "{counted} wrong, {uncounted} without syncs"
+    );
     Ok(removed?)
 }

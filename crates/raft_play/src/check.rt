@@ -97,9 +97,11 @@ fn agrees<F: FileSystem + Drop>(
     fails: bool,
 ) -> Result<bool, Fault> {
     let (opens, mut left) = opened(alloc, config(alloc, mode)?, files);
-    Ok(opens != fails
-        && is_left(alloc, &mut left, &checked.append, mode, opens)?
-        && is_left(alloc, &mut left, &checked.rewrite, mode, opens)?)
+    Ok(
+        opens != fails
+            && is_left(alloc, &mut left, &checked.append, mode, opens)?
+            && is_left(alloc, &mut left, &checked.rewrite, mode, opens)?,
+    )
 }
 
 fn told(alloc: Global, outlook: &Outlook) -> Result<String, AllocError> {

@@ -43,9 +43,7 @@ enum Topic {
 /// The words with which lines of a topic begin; all others ask for looks.
 const SETTINGS_LINES: [&str; 3] = ["settings", "set", "name"];
 
-const LOG_LINES: [&str; 7] = [
-    "open", "why", "close", "reopen", "give-up", "fail", "stop",
-];
+const LOG_LINES: [&str; 7] = ["open", "why", "close", "reopen", "give-up", "fail", "stop"];
 
 const BATCH_LINES: [&str; 10] = [
     "put", "del", "message", "ent", "raw", "clean", "compact", "next", "flags", "drop",

@@ -89,7 +89,10 @@ fn each_number_of_workers_finds_the_same(rt: HostRuntime) {
     for case in &CASES {
         for threads in &THREADS {
             assert!(rt;
-                matches!(finds_all_in_memory(&rt, rt.alloc(), case, *threads), Ok(true)),
+                matches!(
+                    finds_all_in_memory(&rt, rt.alloc(), case, *threads),
+                    Ok(true)
+                ),
                 "{} and {} files, {threads} threads",
                 case.append,
                 case.rewrite
@@ -156,7 +159,10 @@ fn each_queue_is_read_alone(rt: HostRuntime) {
         for queue in &[LogQueue::Append, LogQueue::Rewrite] {
             for concurrency in &THREADS {
                 assert!(rt;
-                    matches!(is_read_alone(&rt, rt.alloc(), case, *queue, *concurrency), Ok(true)),
+                    matches!(
+                        is_read_alone(&rt, rt.alloc(), case, *queue, *concurrency),
+                        Ok(true)
+                    ),
                     "{queue:?} of {} and {} files, {concurrency} workers",
                     case.append,
                     case.rewrite
@@ -201,7 +207,10 @@ fn a_refused_reading_cuts_nothing(rt: HostRuntime) {
         for nth in 1..6 {
             for call in &[FsCall::Open, FsCall::NewReader, FsCall::FileSize] {
                 assert!(rt;
-                    matches!(is_refused_in_memory(&rt, rt.alloc(), *call, nth, *threads), Ok(true)),
+                    matches!(
+                        is_refused_in_memory(&rt, rt.alloc(), *call, nth, *threads),
+                        Ok(true)
+                    ),
                     "call {nth}, {threads} threads"
                 );
             }

@@ -3,8 +3,8 @@
 use raft_allowed::allowed;
 use raft_records::{Fault, ReadableSize};
 use raft_test_rows::{
-    Change, Config, EXPIRED, Image, Left, OPERATIONS, Op, Outcome, PURGES, Plan, REWRITTEN_IN_PARTS,
-    op_of, ops_of, settings,
+    Change, Config, EXPIRED, Image, Left, OPERATIONS, Op, Outcome, PURGES, Plan,
+    REWRITTEN_IN_PARTS, op_of, ops_of, settings,
 };
 use std::alloc::{AllocError, Global};
 
