@@ -1,9 +1,9 @@
 -- How moments are put together.
-use Rattle.std.proofs.Common.{◌≡◌, Result, Ok, Err, List, [], ◌∷◌, ◌++◌, sym, ◌∙◌, ap, refl, subst, arith, append_assoc}
+use Rattle.std.proofs.Common.{◌≡◌, List, [], ◌∷◌, ◌++◌, sym, ◌∙◌, ap, refl, subst, arith, append_assoc}
 use Rattle.std.specs.List.{AllByRecursion}
 use Rattle.raft_env.specs.Directory.{Directory}
 use Rattle.raft_env.specs.Moments.{HoldsThroughout, MovesBy, OnlyReads}
-use Rattle.raft_env.specs.Refusal.{CountsRefusal, CountsRefusalOf, NoFewer, Refusals}
+use Rattle.raft_env.specs.Refusal.{CountsRefusal, NoFewer, Refusals}
 use Rattle.raft_env.specs.declared.env.FsFault.{FsFault}
 use Rattle.raft_env.specs.declared.env.FsFault.TheVariants.{Io, Memory}
 
@@ -41,10 +41,6 @@ all_fewer old mid new a b = (omega (arith, a.0, b.0), omega (arith, a.1, b.1))
 pub counted_no_fewer : (f : FsFault) (old new : Refusals) → CountsRefusal f old new → NoFewer old new
 counted_no_fewer (Io kind) old new h = (h.1, omega (arith, h.2))
 counted_no_fewer Memory old new h = (omega (arith, h.0), omega (arith, h.1))
-
-pub counts_no_fewer : {T : Type 0} (r : Result T FsFault) (old new : Refusals) → CountsRefusalOf r old new → NoFewer old new
-counts_no_fewer (Ok value) old new h = (omega (arith, h.0), omega (arith, h.1))
-counts_no_fewer (Err f) old new h = counted_no_fewer f old new h
 
 -- how calls on a file system go on
 module _ {F : Type 0} {directory : F → Directory} {moments : F → List Directory} {refusals_of : F → Refusals} where

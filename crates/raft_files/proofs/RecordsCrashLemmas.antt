@@ -317,6 +317,3 @@ log_found_cut path id r old cut new e is change =
       written = subst (λ n. IsWrittenTo id r.format r.records n r.end change.after) (count_of r.records found holds)
           (subst (IsWrittenTo id r.format r.records (length r.records) r.end) (sym change.how) written);
     }
-
-pub bytes_synced : (path : Path) (old new : Directory) → HasChanged path IsSynced old new → bytes_at path new ≡ bytes_at path old
-bytes_synced path old new change = ap bytes_of (stands_after path old new IsSynced change) ∙ ap (λ (f : File). f.now) change.how ∙ sym (ap bytes_of change.was)

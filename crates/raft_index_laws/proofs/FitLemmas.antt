@@ -1,27 +1,23 @@
 -- What is rewritten from the Append queue fits the Rewrite queue.
-use Rattle.std.proofs.Common.{◌≡◌, ℕ, ◌<◌, ◌≤◌, ◌⊎◌, inl, Bool, true, false, List, [], ◌∷◌, ◌++◌, Option, Some, None, sym, ◌∙◌, ap, subst, ⊎_elim, arith}
+use Rattle.std.proofs.Common.{◌≡◌, ℕ, ◌<◌, ◌≤◌, Bool, true, false, List, [], ◌∷◌, ◌++◌, Option, Some, None, sym, ◌∙◌, ap, arith}
 use Rattle.std.specs.List.{Contains, AllByRecursion as Each}
 use Rattle.std.specs.Option.{option_map}
-use Rattle.std.specs.Prelude.{unwrap_or, nat_lt}
-use Rattle.std.proofs.lemmas.Bool.{and_parts, cases_Bool, false≢true, leb-true}
-use Rattle.std.proofs.lemmas.Bool.Decides.{nat_tests}
-use Rattle.std.proofs.lemmas.List.{map-append}
-use Rattle.std.proofs.lemmas.List.Elements.{Contains-append_left, Contains-append_right}
+use Rattle.std.specs.Prelude.{unwrap_or}
+use Rattle.std.proofs.lemmas.Bool.{and_parts, false≢true}
 use Rattle.raft_base.specs.declared.pipe_log.FileBlockHandle.{FileBlockHandle}
 use Rattle.raft_base.specs.declared.pipe_log.LogQueue.{LogQueue}
 use Rattle.raft_base.specs.declared.pipe_log.LogQueue.TheVariants.{Append, Rewrite}
 use Rattle.raft_records.specs.declared.entry_index.EntryPlace.{EntryPlace}
 use Rattle.raft_records.specs.Item.{Entry}
-use Rattle.raft_records.specs.Contents.{Contents, is_next_to}
+use Rattle.raft_records.specs.Contents.{is_next_to}
 use Rattle.raft_records.specs.Places.{Blocks, entry_in, entries_in}
 use Rattle.raft_recovery_laws.specs.Consecutive.{are_consecutive}
-use Rattle.raft_recovery_laws.specs.Recovered.{item_leaves, leaves, replay}
-use Rattle.raft_recovery_laws.specs.Rewriting.{FitsRewrite}
+use Rattle.raft_recovery_laws.specs.Recovered.{item_leaves, leaves}
 use Rattle.raft_tables.specs.Counters.{is_rewrite, is_rewritten}
 use Rattle.raft_tables.specs.Owed.{Marks}
 use Rattle.raft_records.specs.FileBatches.{FileBatch, batches_of}
 use Rattle.raft_index_laws.specs.Standing.{EntryStands, PlacedEntryStands, StandsInBlock, are_rewritten, ends_leave}
-use Rattle.raft_recovery_laws.proofs.EachLemmas.{all_of, each_contained, each_left, each_right, next_to, one_before, within}
+use Rattle.raft_recovery_laws.proofs.EachLemmas.{each_contained, next_to, one_before, within}
 use Rattle.raft_index_laws.proofs.EndsLemmas.{from_none, pass-later}
 
 -- what an entry in the Rewrite queue is
@@ -66,29 +62,3 @@ touching old [] e r run_old run held o has below = absurd (omega (arith, (within
 touching old (p ∷ ps) e r run_old run held o has below =
     let found = one_before p.0 p ps e r run in
     next_to old found.0 e.0 run_old (each_contained (Contains old) (p ∷ ps) found.0 held found.1) found.2
-
-below_or_not : (a b : ℕ) → nat_lt a b ≡ false → b ≤ a
-below_or_not a b is = grind (arith, nat_tests)
-
-pub from_append_fits : (blocks : Blocks) (x : Contents) (appended : List FileBatch) (marks : Marks) (group : ℕ) (pre : List (ℕ × EntryPlace)) (m : ℕ × EntryPlace) (ms post : List (ℕ × EntryPlace))
-    → are_consecutive (x.entries group) ≡ true → are_consecutive (entries_in blocks (pre ++ m ∷ (ms ++ post))) ≡ true
-    → (replay x (batches_of appended)).entries group ≡ entries_in blocks (pre ++ m ∷ (ms ++ post))
-    → Each (EntryStands blocks (ends_leave appended group) marks (x.entries group)) (pre ++ m ∷ (ms ++ post)) → are_rewritten pre ≡ true → is_rewritten m.1 ≡ false
-    → FitsRewrite x (batches_of appended) group (entry_in blocks m) (entries_in blocks ms)
-from_append_fits blocks x appended marks group pre m ms post run_x run now each rewritten first =
-    let P = EntryStands blocks (ends_leave appended group) marks (x.entries group) in
-    let old = x.entries group in
-    let e = entry_in blocks m in
-    let new = e ∷ entries_in blocks ms in
-    let all = entries_in blocks (pre ++ m ∷ (ms ++ post)) in
-    let split : all ≡ entries_in blocks pre ++ (e ∷ (entries_in blocks ms ++ entries_in blocks post)) = map-append (entry_in blocks) pre (m ∷ (ms ++ post)) ∙ ap (λ r. entries_in blocks pre ++ (e ∷ r)) (map-append (entry_in blocks) ms post) in
-    let behind : (index : ℕ) → e.0 ≤ index → leaves (batches_of appended) group index ≡ false = none_left_behind blocks appended group marks old m first (each_right P pre (m ∷ (ms ++ post)) each).0 in
-    let rewritten_held : Each (Contains old) (entries_in blocks pre) = rewritten_are_held blocks (ends_leave appended group) marks old pre rewritten (each_left P pre (m ∷ (ms ++ post)) each) in
-    record {
-      held = all_of (λ n. leaves (batches_of appended) group n.0 ≡ true → Contains ((replay x (batches_of appended)).entries group) n) new
-          (λ n is _. subst (λ (xs : List Entry). Contains xs n) (sym (now ∙ split)) (Contains-append_right (entries_in blocks pre) (new ++ entries_in blocks post) n (Contains-append_left new (entries_in blocks post) n is)));
-      covers = all_of (λ o. leaves (batches_of appended) group o.0 ≡ true → (o.0 < e.0) ⊎ Contains new o) ((replay x (batches_of appended)).entries group)
-          (λ o is left. ⊎_elim (λ below. inl (leb-true _ _ below)) (λ above. absurd (false≢true (sym (behind o.0 (below_or_not o.0 e.0 above)) ∙ left))) (cases_Bool (nat_lt o.0 e.0)));
-      touches = all_of (λ o. leaves (batches_of appended) group o.0 ≡ true → o.0 < e.0 → is_next_to old e.0 ≡ true) ((replay x (batches_of appended)).entries group)
-          (λ o is left below. touching old (entries_in blocks pre) e (entries_in blocks ms ++ entries_in blocks post) run_x (subst (λ (xs : List Entry). are_consecutive xs ≡ true) split run) rewritten_held o (subst (λ (xs : List Entry). Contains xs o) (now ∙ split) is) below);
-    }

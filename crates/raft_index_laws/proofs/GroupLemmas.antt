@@ -188,9 +188,6 @@ tail_behind blocks left marks held n least a (b ∷ bs) run order each none =
     both : {c d : Bool} → c ≡ true → d ≡ true → (c && d) ≡ true
     both p q = cc
 
-not_from : (index n : ℕ) → nat_le index n ≡ false → n < index
-not_from index n is = grind (arith, nat_tests)
-
 pub all_from : (index n : ℕ) (es : List (ℕ × EntryPlace)) → index ≤ n → are_consecutive_from n es ≡ true → filter (λ e. nat_le index e.0) es ≡ es
 all_from index n [] le run = refl
 all_from index n (e ∷ es) le run =

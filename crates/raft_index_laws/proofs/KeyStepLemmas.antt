@@ -1,28 +1,17 @@
 -- What is true of the keys of all groups, step by step.
-use Rattle.std.proofs.Common.{◌≡◌, ℕ, ◌==◌, Bool, true, false, cond, List, [], ◌∷◌, ◌++◌, Option, None, map, refl, sym, ◌∙◌, ap, subst}
-use Rattle.std.specs.List.{list_all}
+use Rattle.std.proofs.Common.{◌≡◌, ℕ, ◌==◌, Bool, true, false, cond, List, Option, None, refl, sym, ◌∙◌, ap, subst}
 use Rattle.std.specs.Cmp.Lexicographic.{bytes_decides}
 use Rattle.raft_records.specs.Contents.{Contents, after_item}
 use Rattle.raft_records.specs.Item.{Clean, Compact, Content, Delete, Put}
-use Rattle.raft_records.specs.PlacedItem.{Plain, PlacedItem, item_in}
-use Rattle.raft_records.specs.Places.{Blocks}
-use Rattle.raft_recovery_laws.specs.Recovered.{item_leaves_key, items_of}
+use Rattle.raft_records.specs.PlacedItem.{Plain, PlacedItem}
 use Rattle.raft_recovery_laws.proofs.KeyLemmas.{value_after_content, value-after_item}
-use Rattle.raft_tables.specs.Tables.{Tables, or_empty, tables_after}
+use Rattle.raft_tables.specs.Tables.{Tables, or_empty}
 use Rattle.raft_tables.specs.Moving.{tables_moved_by, table_moved}
-use Rattle.raft_tables.specs.Owed.{Marks, Owed, owed_after, with_marks, without_clean, without_compaction, without_delete}
-use Rattle.raft_records.specs.FileBatches.{FileBatch, batches_of, from_file}
-use Rattle.raft_index_laws.specs.Standing.{AreKeysPlacedFrom, KeysStand, KeyStands, ends_leave_key}
-use Rattle.raft_index_laws.proofs.EndsLemmas.{from_from, pass-push}
-use Rattle.raft_index_laws.proofs.KeyLemmas.{after_items, clean_marked, delete_marked, eq_from_test, eq_self, front_dropped, in_append, in_rewrite, less_left, more_owed, moved, stored-moved}
+use Rattle.raft_tables.specs.Owed.{Marks, Owed, with_marks, without_clean, without_compaction, without_delete}
+use Rattle.raft_records.specs.FileBatches.{FileBatch}
+use Rattle.raft_index_laws.specs.Standing.{KeysStand, KeyStands, ends_leave_key}
+use Rattle.raft_index_laws.proofs.KeyLemmas.{clean_marked, delete_marked, eq_from_test, eq_self, in_rewrite, more_owed, moved, stored-moved}
 use Rattle.raft_index_laws.specs.Rewriting.{MayMoveKey}
-
-pub keys_written : (x : Contents) (appended : List FileBatch) (owed : Owed) (t : Tables) (blocks : Blocks) (seq : ℕ) (items : List PlacedItem) → KeysStand x appended owed t
-    → KeysStand x (appended ++ (seq, map (item_in blocks) items) ∷ []) (owed_after (in_append seq) t items owed) (tables_after (in_append seq) t items)
-keys_written x appended owed t blocks seq items stands group key =
-    less_left _ (ends_leave_key (appended ++ (seq, map (item_in blocks) items) ∷ []) group key) (owed_after (in_append seq) t items owed group) (x.value group key) key ((or_empty (tables_after (in_append seq) t items group)).keys key)
-    (λ n is. pass-push (item_leaves_key group key) appended seq (map (item_in blocks) items) n ∙ is)
-    (after_items blocks seq group key (ends_leave_key appended group key) owed (x.value group key) t items (stands group key))
 
 -- what one item does to a group's key in the Rewrite queue
 pub in_group : (x : Contents) (appended : List FileBatch) (owed : Owed) (t u : Tables) (group : ℕ) (content : Content) (marks : Marks) → ((g : ℕ) → (g == group) ≡ false → u g ≡ t g)
@@ -53,11 +42,6 @@ pub keys_compacted : (x : Contents) (appended : List FileBatch) (owed : Owed) (t
 keys_compacted x appended owed t group index stands =
     in_group x appended owed t t group (Compact index) (without_compaction (owed group)) (λ g other. refl)
     (λ k. more_owed (ends_leave_key appended group k) (owed group) (without_compaction (owed group)) (x.value group k) k ((or_empty (t group)).keys k) refl (λ is. is) (stands group k)) stands
-
-pub keys_dropped : (x : Contents) (appended : List FileBatch) (owed : Owed) (t : Tables) (first : ℕ) → KeysStand x appended owed t → AreKeysPlacedFrom first t → KeysStand x (from_file first appended) owed t
-keys_dropped x appended owed t first stands placed group key =
-    front_dropped first (ends_leave_key appended group key) (ends_leave_key (from_file first appended) group key) (owed group) (x.value group key) key ((or_empty (t group)).keys key)
-    (λ n from is. ap (λ (bs : List FileBatch). list_all (item_leaves_key group key) (items_of (batches_of bs))) (from_from first n appended from) ∙ is) (placed group key) (stands group key)
 
 pub key_rewritten : (x : Contents) (appended : List FileBatch) (owed : Owed) (t : Tables) (watermark : Option ℕ) (seq group : ℕ) (key value : List ℕ) → KeysStand x appended owed t → (owed group).cleaned ≡ false → MayMoveKey watermark t group key value
     → KeysStand (after_item x (record { group = group; content = Put key value })) appended owed (tables_moved_by watermark (in_rewrite seq) t (record { group = group; content = Plain (Put key value) }))

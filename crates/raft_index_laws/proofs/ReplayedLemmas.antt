@@ -32,9 +32,6 @@ high_test a b is = grind (arith, nat_tests)
 low_test : (a b : ℕ) → a < b → nat_lt a b ≡ true
 low_test a b is = grind (arith, nat_tests)
 
-not_low_test : (a b : ℕ) → b ≤ a → nat_lt a b ≡ false
-not_low_test a b is = grind (arith, nat_tests)
-
 from_test : (a b : ℕ) → nat_le a b ≡ false → b < a
 from_test a b is = grind (arith, nat_tests)
 

@@ -13,32 +13,16 @@ use Rattle.raft_env.proofs.OutcomesOverlayLemmas.{get_or-padded, length-overlaid
 pub length-padded : (bytes : List ℕ) (n : ℕ) → length (pad_to bytes n) ≡ max n (length bytes)
 length-padded bytes n = omega (arith, length-append bytes (replicate {A = ℕ} (n - length bytes) 0), length-replicate {A = ℕ} (n - length bytes) 0)
 
-pub padded_none : (bytes : List ℕ) → pad_to bytes (length bytes) ≡ bytes
-padded_none bytes =
-    let none : length bytes - length bytes ≡ 0 = omega arith in
-    ap (λ (n : ℕ). bytes ++ replicate n 0) none ∙ append-nil bytes
-
 pub padded_again : (bytes : List ℕ) (n size : ℕ) → length bytes ≤ n → pad_to bytes (max n size) ≡ pad_to (pad_to bytes n) size
 padded_again bytes n size within = same_number_lists _ _
     (omega (arith, length-padded bytes (max n size), length-padded bytes n, length-padded (pad_to bytes n) size))
     (λ i h. get_or-padded bytes (max n size) i ∙ sym (get_or-padded bytes n i) ∙ sym (get_or-padded (pad_to bytes n) size i))
-
-pub padded_cut : (bytes : List ℕ) (n size : ℕ) → length bytes ≤ n → pad_to (take size bytes) (min n size) ≡ take size (pad_to bytes n)
-padded_cut bytes n size within = same_number_lists _ _
-    (omega (arith, length-padded (take size bytes) (min n size), length-padded bytes n, length-take size bytes, length-take size (pad_to bytes n)))
-    (λ i h.
-    let inside : i < size = omega (arith, length-padded (take size bytes) (min n size), length-take size bytes) in
-    get_or-padded (take size bytes) (min n size) i ∙ get_or-take size bytes i 0 inside ∙ sym (get_or-padded bytes n i) ∙ sym (get_or-take size (pad_to bytes n) i 0 inside))
 
 -- at most to where they end nothing is added
 pub padded_to : (bytes : List ℕ) (size : ℕ) → pad_to bytes (max size (length bytes)) ≡ pad_to bytes size
 padded_to bytes size =
     let same : max size (length bytes) - length bytes ≡ size - length bytes = omega arith in
     ap (λ (n : ℕ). bytes ++ replicate n 0) same
-
--- a copy that was lengthened
-pub copied : (bytes copy : List ℕ) (n : ℕ) → length bytes ≤ n → copy ≡ take n bytes ++ replicate (n - length bytes) 0 → copy ≡ pad_to bytes n
-copied bytes copy n within is = is ∙ ap (λ (l : List ℕ). l ++ replicate (n - length bytes) 0) (take_all _ _ within)
 
 -- what a write put into its range
 overlaid_inside : (bytes : List ℕ) (at : ℕ) (given : List ℕ) (i : ℕ) → 0 < length given → is_within at (length given) i ≡ true → get_or (overlay bytes at given) i 0 ≡ get_or given (i - at) 0
@@ -62,23 +46,6 @@ overlaid_padded bytes at n given some within = same_number_lists _ _
     one : (i : ℕ) (b : Bool) → is_within at (length given) i ≡ b → get_or (overlay bytes at given) i 0 ≡ get_or (overlay (pad_to bytes n) at given) i 0
     one i true e = overlaid_inside bytes at given i some e ∙ sym (overlaid_inside (pad_to bytes n) at given i some e)
     one i false e = overlaid_outside bytes at given i e ∙ sym (get_or-padded bytes n i) ∙ sym (overlaid_outside (pad_to bytes n) at given i e)
-
-pub overlaid_fits : (bytes : List ℕ) (at n : ℕ) (given : List ℕ) → 0 < length given → length bytes ≤ n → length (overlay bytes at given) ≤ max n (at + length given)
-overlaid_fits bytes at n given some within = omega (arith, length-overlaid bytes at given (inr some))
-
--- a write at the end appends
-pub appended : (bytes : List ℕ) (at : ℕ) (given : List ℕ) → 0 < length given → at ≡ length bytes → bytes ++ given ≡ overlay bytes at given
-appended bytes at given some end = same_number_lists _ _
-    (omega (arith, length-append bytes given, length-overlaid bytes at given (inr some)))
-    (λ i h. one i (is_within at (length given) i) refl (omega (arith, length-append bytes given)))
-  where
-    one : (i : ℕ) (b : Bool) → is_within at (length given) i ≡ b → i < length bytes + length given → get_or (bytes ++ given) i 0 ≡ get_or (overlay bytes at given) i 0
-    one i true e h =
-        let above : at ≤ i = grind (arith, nat_tests) in
-        get_or-append_right bytes given at i 0 (sym end) above ∙ sym (overlaid_inside bytes at given i some e)
-    one i false e h =
-        let before : i < length bytes = grind (arith, nat_tests, end) in
-        get_or-append bytes given 0 i before ∙ sym (overlaid_outside bytes at given i e)
 
 -- a slice of which the first bytes and then all others were written
 pub put_in_two : (first bytes rest : List ℕ) (n : ℕ) → length first ≡ n → n ≤ length bytes

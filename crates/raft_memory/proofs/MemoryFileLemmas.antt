@@ -1,12 +1,12 @@
 -- What a change does to what a file keeps.
 use Rattle.std.proofs.lemmas.Bool.{or_parts, cases_lt}
-use Rattle.std.proofs.Common.{◌≡◌, ℕ, ◌-◌, ◌<◌, ◌≤◌, min, max, Bool, true, false, ◌||◌, List, length, length-append, take, get_or, refl, sym, ◌∙◌, ap, subst, inl, inr, arith, ◌+◌, ◌++◌, drop}
+use Rattle.std.proofs.Common.{◌≡◌, ℕ, ◌-◌, ◌<◌, ◌≤◌, min, max, Bool, true, false, ◌||◌, List, length, length-append, take, get_or, refl, sym, ◌∙◌, ap, subst, inl, inr, arith}
 use Rattle.std.proofs.lemmas.Bool.Decides.{nat_tests}
-use Rattle.raft_env.specs.Outcomes.{File, MayLeave, is_within, file_after_write, file_after_resize, longest_of, pad_to, overlay}
+use Rattle.raft_env.specs.Outcomes.{File, MayLeave, is_within, file_after_write, file_after_resize, longest_of, pad_to}
 use Rattle.raft_memory.specs.MemoryFile.{IsFileOf, is_covered}
 use Rattle.std.specs.Prelude.{replicate}
-use Rattle.std.proofs.lemmas.List.{length-replicate, get_or-take, get_or_past, length-take-le, take_all, drop_all, append-nil}
-use Rattle.raft_env.proofs.OutcomesOverlayLemmas.{get_or-padded, longest_of-more, overlaid_is}
+use Rattle.std.proofs.lemmas.List.{length-replicate, get_or-take, get_or_past, length-take-le}
+use Rattle.raft_env.proofs.OutcomesOverlayLemmas.{get_or-padded, longest_of-more}
 
 or_comm : (a b : Bool) → (a || b) ≡ (b || a)
 or_comm true true = refl
@@ -78,19 +78,3 @@ module _ (bytes synced : List ℕ) (ranges : List (ℕ × ℕ)) (low high : ℕ)
         let within : i < length synced = omega (arith, ap length k.on_disk) in
         same i h within (sym (k.touched i) ∙ apart) ∙ ap (λ (l : List ℕ). get_or l i 0) (sym k.on_disk);
   }
-
--- the bytes are lengthened where that is needed, and then written over
-pub overlaid_long : (bytes : List ℕ) (at : ℕ) (given : List ℕ) → at + length given ≤ length bytes → take at bytes ++ given ++ drop (at + length given) bytes ≡ overlay bytes at given
-overlaid_long bytes at given long =
-    let none : at + length given - length bytes ≡ 0 = omega arith in
-    let same : pad_to bytes (at + length given) ≡ bytes = ap (λ (n : ℕ). bytes ++ replicate n 0) none ∙ append-nil bytes in
-    ap (λ (l : List ℕ). take at l ++ given ++ drop (at + length given) bytes) (sym same) ∙ sym (overlaid_is bytes at given (inl (omega arith)))
-
-pub overlaid_short : (bytes mid : List ℕ) (at : ℕ) (given : List ℕ) → 0 < length given → length bytes < at + length given → mid ≡ take (at + length given) bytes ++ replicate (at + length given - length bytes) 0
-    → take at mid ++ given ++ drop (at + length given) mid ≡ overlay bytes at given
-overlaid_short bytes mid at given some short is =
-    let same : mid ≡ pad_to bytes (at + length given) = is ∙ ap (λ (l : List ℕ). l ++ replicate (at + length given - length bytes) 0) (take_all _ _ (omega arith)) in
-    let long : length mid ≤ at + length given = omega (arith, ap length same, length-append bytes (replicate (at + length given - length bytes) 0), length-replicate {A = ℕ} (at + length given - length bytes) 0) in
-    ap (λ (l : List ℕ). take at l ++ given ++ drop (at + length given) mid) same
-    ∙ ap (λ (l : List ℕ). take at (pad_to bytes (at + length given)) ++ given ++ l) (drop_all _ mid long ∙ sym (drop_all _ bytes (omega arith)))
-    ∙ sym (overlaid_is bytes at given (inr some))

@@ -1,12 +1,12 @@
 -- The number that a group keeps, after batches with and without numbers.
-use Rattle.std.proofs.Common.{◌≡◌, ℕ, ◌^◌, ◌<◌, ◌⊎◌, ◌&&◌, Bool, true, false, cond, nat_eq, nat_lt, List, [], ◌∷◌, Option, Some, None, refl, sym, ◌∙◌, ap, subst, arith, inl, inr, append-nil}
+use Rattle.std.proofs.Common.{◌≡◌, ℕ, ◌^◌, ◌<◌, ◌⊎◌, ◌&&◌, Bool, true, false, cond, nat_eq, nat_lt, List, [], ◌∷◌, Some, None, refl, sym, ◌∙◌, ap, subst, arith, inl, inr, append-nil}
 use Rattle.std.specs.List.{list_any}
 use Rattle.std.specs.Str.{bytes_eq}
 use Rattle.std.proofs.lemmas.Bool.{and_parts, and_from, or_parts, cases_Bool, eqb-true, eq-eqb, ltb-true, le-leb, false_from_ne_true}
 use Rattle.std.proofs.lemmas.List.Sums.{fold-append}
 use Rattle.std.proofs.lemmas.Slice.Eq.{bytes_eq-Decides}
-use Rattle.raft_codec.specs.Number.{AreBytes, take_u64, u64_bytes}
-use Rattle.raft_codec.proofs.NumberLemmas.{take_u64-u64_bytes, u64_bytes_from_taken}
+use Rattle.raft_codec.specs.Number.{take_u64, u64_bytes}
+use Rattle.raft_codec.proofs.NumberLemmas.{take_u64-u64_bytes}
 use Rattle.raft_records.specs.Contents.{Contents, after_batch, after_content, after_item, with_value}
 use Rattle.raft_records.specs.Item.{Content, Entries, Clean, Compact, Put, Delete, Batch, group_mark_key}
 use Rattle.raft_once.specs.Numbers.{Pair, are_new, are_old, changes_number, has_group_twice, has_numbers, is_number_key, number_in, number_item, number_items, number_key, number_of, numbered, whole_number}
@@ -19,15 +19,6 @@ pub number_in-u64_bytes : (n : ℕ) → n < 2 ^ 64 → number_in (Some (u64_byte
 number_in-u64_bytes n fits =
     let taken : take_u64 (u64_bytes n) ≡ Some (n, []) = ap take_u64 (sym (append-nil (u64_bytes n))) ∙ take_u64-u64_bytes n [] fits in
     ap whole_number taken
-
-whole_number-bound : (bytes : List ℕ) (o : Option (ℕ × List ℕ)) → AreBytes bytes → take_u64 bytes ≡ o → whole_number o < 2 ^ 64
-whole_number-bound bytes None all is = omega arith
-whole_number-bound bytes (Some (n, [])) all is = (u64_bytes_from_taken bytes [] n all is).0
-whole_number-bound bytes (Some (n, (b ∷ rest))) all is = omega arith
-
--- it is below 2^64
-pub number_in-bound : (bytes : List ℕ) → AreBytes bytes → number_in (Some bytes) < 2 ^ 64
-number_in-bound bytes all = whole_number-bound bytes (take_u64 bytes) all refl
 
 -- Items that change no number.
 

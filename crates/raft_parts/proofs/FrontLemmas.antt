@@ -1,5 +1,5 @@
 -- First bytes that tell a record.
-use Rattle.std.proofs.Common.{◌≡◌, ℕ, ◌+◌, ◌-◌, ◌<◌, ◌≤◌, min, List, length, take, drop, Option, Some, None, refl, sym, ap, subst, ◌∙◌, arith, length-drop}
+use Rattle.std.proofs.Common.{◌≡◌, ℕ, ◌+◌, ◌-◌, ◌<◌, ◌≤◌, min, List, length, take, drop, Option, Some, None, sym, ap, subst, ◌∙◌, length-drop}
 use Rattle.std.specs.Option.{IfSome}
 use Rattle.raft_records.specs.Front.{HasRecordOf}
 use Rattle.raft_records.specs.Record.{Header, record_header}
@@ -25,11 +25,3 @@ module _ (bytes front : List ℕ) (is : front ≡ take (length front) bytes) whe
   -- .. one that is longer than all bytes, or that is there
   pub tells_one : (h : Header) → min 16 (length bytes) ≤ length front → record_header front ≡ Some h → (h.len ≤ length bytes → h.len ≤ length front) → HasRecordOf bytes front
   tells_one h enough read whole = has_by (Some h) (sym (held enough) ∙ read) enough whole
-
-  -- all bytes are there
-  pub tells_all : length bytes ≤ length front → HasRecordOf bytes front
-  tells_all all = by_header (record_header bytes) refl
-    where
-      by_header : (o : Option Header) → record_header bytes ≡ o → HasRecordOf bytes front
-      by_header None read = has_by None read (omega arith) tt
-      by_header (Some h) read = has_by (Some h) read (omega arith) (λ within. omega (arith, within, all))

@@ -34,10 +34,6 @@ pub option_or-none : (o : Option StoredValue) → option_or o None ≡ o
 option_or-none None = refl
 option_or-none (Some v) = refl
 
-or_true : (b : Bool) → (b || true) ≡ true
-or_true true = refl
-or_true false = refl
-
 -- a group's table without one above it
 pub table_alone : (t : TableView) (o : Option TableView) → None ≡ o → IsTableJoined (Some t) o t
 table_alone t o none = subst (λ p. IsTableJoined (Some t) p t) none (record { entries = refl; keys = λ k. refl })
@@ -116,11 +112,6 @@ total-put m n group new old is puts =
     let sum = sum_by_puts_entry (λ (t : MemTable). rewritten_in (table_of t)) nat_eq m.tables n group new old is puts in
     let was = ap (λ o. unwrap_or (option_map (λ (t : MemTable). rewritten_in (table_of t)) o) 0) is in
     omega (arith, sum, was)
-
--- .. and so many more were placed there than left
-pub total-written : (m : MemTables) (n : Groups) (group : ℕ) (old new : MemTable) (left placed : ℕ) → Some old ≡ hash.get nat_eq m.tables group → n.entries ≡ set_value (nat_eq group) m.tables.entries new
-    → left + rewritten_in (table_of new) ≡ rewritten_in (table_of old) + placed → left + rewritten_total (record { alloc = m.alloc; tables = n }) ≡ rewritten_total m + placed
-total-written m n group old new left placed there is counted = omega (arith, counted, total-set m n group old new there is)
 
 pub total-removed : (m : MemTables) (n : Groups) (group : ℕ) (old : Option MemTable) → old ≡ hash.get nat_eq m.tables group → IsPermutation (remove_entry (nat_eq group) m.tables.entries) n.entries
     → rewritten_in (or_empty (option_map table_of old)) + rewritten_total (record { alloc = m.alloc; tables = n }) ≡ rewritten_total m
