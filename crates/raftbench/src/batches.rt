@@ -189,13 +189,12 @@ impl PurgedWrites {
     }
 }
 
-/// Each in a batch of its own, and a purge by watermarks, if any, after as many bytes as a log file
-/// holds: how often it was purged, and the most bytes that the log files of both queues had, each
-/// as if it were full.
+/// Puts, each in a batch of its own and made right before it, and a purge by watermarks, if any,
+/// after as many bytes as a log file holds: how often it was purged, and the most bytes that the log
+/// files of both queues had, each as if it were full.
 pub(crate) fn write_beside_purges<R: Host, F: FileSystem>(
     rt: &R,
     engine: &mut Engine<F>,
-    batches: Vec<Written>,
     load: Load,
 ) -> Result<Outcome> {
     let purge_each = match load.kind {
@@ -210,8 +209,15 @@ pub(crate) fn write_beside_purges<R: Host, F: FileSystem>(
         longest: 0,
         most_used: 0,
     };
-    for written in batches {
+    // Made ahead, each would leave memory that nothing takes again, and a purge's first request of
+    // a kilobyte would wait while the C library joins all of it.
+    let mut value = filled(rt.alloc(), load.size)?;
+    let mut key = 0;
+    for number in 0..load.count {
+        mark(&mut value, number);
+        let written = put_of(rt.alloc(), key, &value)?;
         writes.write(rt, engine, &mut batch, written, purge_each, load)?;
+        key = next_key(key, load);
     }
     let most_used = engine.get_used_size().max(writes.most_used);
     let used = Figure::Count(most_used as u64, "bytes of files at most");

@@ -138,7 +138,7 @@ fn data_of<F: FileSystem>(
         value: Vec::new(alloc),
     };
     match part {
-        Part::Write | Part::WriteBesidePurges => data.batches = batches_of(alloc, load)?,
+        Part::Write => data.batches = batches_of(alloc, load)?,
         Part::Get | Part::GetSummed => data.keys = keys_of(alloc, load)?,
         Part::Entry | Part::Fetch => data.places = places_of(alloc, engine, load, false)?,
         Part::EntryInOrder => data.places = places_in_order(alloc, engine)?,
@@ -161,10 +161,7 @@ fn perform<R: Host, F: FileSystem>(
             let batches = mem::replace(&mut data.batches, Vec::new(rt.alloc()));
             write_all(rt, engine, batches, load)
         }
-        Part::WriteBesidePurges => {
-            let batches = mem::replace(&mut data.batches, Vec::new(rt.alloc()));
-            write_beside_purges(rt, engine, batches, load)
-        }
+        Part::WriteBesidePurges => write_beside_purges(rt, engine, load),
         Part::Get => get_each(engine, &data.keys, false, load),
         Part::GetSummed => get_each(engine, &data.keys, true, load),
         Part::Entry | Part::EntryInOrder | Part::EntryAgain => {
