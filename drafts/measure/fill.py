@@ -119,7 +119,7 @@ def r(x):
 
 
 def some_digits(x):
-    return f"{x:.1f}" if x < 10 else num(x)
+    return f"{x:.2f}" if x < 1 else f"{x:.1f}" if x < 10 else num(x)
 
 
 def between(values, form):
@@ -193,9 +193,14 @@ def least(name, letter, what, place=0):
     return min(x[place] for x in told_in[f"stay-{name}", NAMES[letter], what])
 
 
-def each_that_stays(letter, what="rewrite"):
-    """ns for each of the entries between 100,000 and 1,000,000."""
-    return (middle("million", letter, what) - middle("hundred", letter, what)) * 1000 / 900000
+def calls(name, letter, what):
+    """Of each of the nine calls the least of the turns, in ms."""
+    return ", ".join(f"{min(x) / 1000:.1f}" for x in zip(*told_in[f"stay-{name}", NAMES[letter], what]))
+
+
+def each_that_stays(name, count):
+    """ns more that B takes for each of the entries that stay, by the middles."""
+    return (middle(name, "B", "rewrite") - middle(name, "U", "rewrite")) * 1000 / count
 
 
 def stays(letter, what):
@@ -206,7 +211,8 @@ def rotated(recycled, place, what="rotate"):
     return min(x[place] for x in told_in[f"rotate-{recycled}", "proved", what])
 
 
-DATE = "2026-11-30"
+# of the run
+COMMIT, DATE = open(f"{OUT}/commit").read().split() if os.path.exists(f"{OUT}/commit") else ("?", "?")
 
 
 def CC(part):
@@ -271,6 +277,16 @@ def shared_verdict():
 
 def before_verdict():
     return some([("appends", B("append") / U("append") >= 1.25), ("puts", B("put") / U("put") >= 1.15)])
+
+
+def growth_verdict():
+    return told([("growth", own_of(all_of("P", "put-quarter", "put"), all_of("P", "put-million", "put")), 0.95, True)])
+
+
+def files_verdict():
+    """Of an opening of 4,041 files, beside its reads and syncs, and before."""
+    now, before = opened("files", 0, "U"), opened("files", 0, "B")
+    return met(now <= bare("files")) + (", and worse than before" if now > 1.1 * before else "")
 
 
 def told(goals):

@@ -40,6 +40,7 @@ int main(int argc, char **argv) {
             if (out) fclose(out);
             snprintf(path, sizeof path, "%s/%016llu.raftlog", argv[1], (unsigned long long)++number);
             out = fopen(path, "w");
+            if (!out) return perror(path), 1;
             big(head, 2);
             const char *magic = "RAFT-LOG-FILE-HEADER-9986AB3E47F320B394C8E84916EB0ED5";
             length = fwrite(magic, 1, strlen(magic), out) + fwrite(head, 1, 16, out);

@@ -1,16 +1,17 @@
 #!/usr/bin/env python3
 """measure.py OUT SECONDS [NAME..]: what docs/PERFORMANCE.md tells, on an idle machine. Three turns, in each every workload by all
 programs, one after the other; a turn begins with another program. OUT/runs.jsonl has a line a run, OUT/TURN.WORKLOAD.PROGRAM.{out,err}
-what it printed. It begins no run that would go past SECONDS. SCALE=0.01 tries all with small counts; TURNS=1."""
+what it printed. It begins no run that would go past SECONDS. SCALE=0.01 tries all with small counts; TURNS=1; PROVED and BUILT are folders
+of other programs to try it with."""
 import json, os, shutil, subprocess, sys, time
 
 OUT, LIMIT, ONLY = sys.argv[1], float(sys.argv[2]), sys.argv[3:]
 os.makedirs(OUT, exist_ok=True)
 T, L = "/work/lanes/M-tools", "/work/lanes"
-P = os.environ.get("PROVED", f"{L}/M-proved")
-BENCH = {"proved": f"{P}/raftbench", "now": f"{L}/M-now/prog", "before": f"{L}/M-old/prog", "core": f"{T}/reference"}
-CTL = {"proved": f"{P}/raftctl", "now": f"{L}/M-now-ctl/prog", "before": f"{L}/M-old-ctl/prog"}
-EXTRA = {"proved": f"{P}/stay", "now": f"{L}/M-now-extra/prog", "before": f"{L}/M-old-extra/prog"}
+P, D = os.environ.get("PROVED", f"{L}/M-proved"), os.environ.get("BUILT", L)
+BENCH = {"proved": f"{P}/raftbench", "now": f"{D}/M-now/prog", "before": f"{D}/M-old/prog", "core": f"{T}/reference"}
+CTL = {"proved": f"{P}/raftctl", "now": f"{D}/M-now-ctl/prog", "before": f"{D}/M-old-ctl/prog"}
+EXTRA = {"proved": f"{P}/stay", "now": f"{D}/M-now-extra/prog", "before": f"{D}/M-old-extra/prog"}
 TURNS = range(1, 1 + int(os.environ.get("TURNS", "3")))
 DATA = f"{L}/M-data"
 ALL, OURS = ["proved", "now", "before", "core"], ["proved", "now", "before"]
@@ -121,6 +122,8 @@ def ctls(turn):
     for command in ("check", "dump", "groups", "stat"):
         for program in turned(OURS, turn):
             one(turn, command, program, [CTL[program], f"{DATA}/keys-{program}", command], 2, kept=False)
+    # the only opening of many files by a proved program, where none is linked through C
+    one(turn, "groups-files", "proved", [CTL["proved"], f"{DATA}/files-proved", "groups"], 1, kept=False)
 
 
 def openers(turn):

@@ -16,7 +16,7 @@ begin, end = text.index("## Speed\n"), text.index("## Where to go on\n")
 table = "\n".join(f"| {label} | {num(P(w, part))} ns | {num(C(w, part))} ns |" for label, w, part in ROWS)
 speed = f"""## Speed
 
-Over files in memory, in one thread, proved programs of commit 57dc0bbc on {DATE}, on an uneven host with slow memory, the fastest of three runs, in turn with plain C++ without proofs, refusals or checks (`tools/reference`). The rest, disks too, and ratios of a quiet host: docs/PERFORMANCE.md. raft-engine was not measured.
+Over files in memory, in one thread, proved programs of commit {COMMIT} on {DATE}, on an uneven host with slow memory, the fastest of three runs, in turn with plain C++ without proofs, refusals or checks (`tools/reference`). The rest, disks too, and ratios of a quiet host: docs/PERFORMANCE.md. raft-engine was not measured.
 
 | Operation | Time | Plain C++ |
 |---|---|---|
