@@ -25,7 +25,7 @@ Over files in memory, in one thread, proved programs of commit {COMMIT} on {DATE
 open(README, "w").write(text[:begin] + reflowed(speed) + "\n" + text[end:])
 limits = os.path.join(os.path.dirname(README), "docs", "LIMITS.md")
 text = open(limits).read()
-text, times = re.subn(r"[\d.]+ to [\d.]+ ms(\s+)in memory over 100,000 keys",
+text, times = re.subn(r"[\d.]+(?: to [\d.]+)? ms(\s+)in memory over 100,000 keys",
                       lambda m: f"{ms(long('put-purge', 'P'))} ms{m[1]}in memory over 100,000 keys", text)
 print(f"{limits}: {times} times")
 open(limits, "w").write(text)
