@@ -262,6 +262,13 @@ pub trait FileSystem: Send + Sync {
         ensures unchanged { OnlyReads directory moments refusals_of self.old self.new }
         ensures counts { CountsRefusalOf result (refusals_of self.old) (refusals_of self.new) };
 
+    /// A hint that these parts of a file, each from a place up to another, are read next. Nothing
+    /// changes, and the number that it returns says nothing: a caller keeps it, so that no compiler
+    /// leaves the hint out.
+    fn will_read(&self, _path: &str, _parts: &[(usize, usize)]) -> u64 {
+        0
+    }
+
     fn file_size(&mut self, handle: &Self::Handle) -> Result<usize, FsFault>
         ensures value { IfOk result (λ n. (file : File)
             × (file_at (directory self.old) (handle_path handle.now) ≡ Some file)
