@@ -1,4 +1,4 @@
-"""readme.py RUNS README: README's table of figures, and the pause in docs/USING.md, "Limits", from the runs."""
+"""readme.py RUNS README: README's table of figures, and the pause in docs/LIMITS.md, from the runs."""
 import os, re, sys
 
 RUNS, README = sys.argv[1], sys.argv[2]
