@@ -109,11 +109,17 @@ int __real_ftruncate(int fd, off_t len);
 int __wrap_ftruncate(int fd, off_t len) { return fails() ? -1 : __real_ftruncate(fd, len); }
 int __real_fsync(int fd);
 int __wrap_fsync(int fd) { return fails() ? -1 : __real_fsync(fd); }
-int __real_unlink(const char *path);
-int __wrap_unlink(const char *path) { return fails() ? -1 : __real_unlink(path); }
-int __real_rename(const char *from, const char *to);
-int __wrap_rename(const char *from, const char *to) {
-    return fails() ? -1 : __real_rename(from, to);
+int __real_unlinkat(int in, const char *name, int flags);
+int __wrap_unlinkat(int in, const char *name, int flags) {
+    return fails() ? -1 : __real_unlinkat(in, name, flags);
+}
+int __real_renameat(int in, const char *from, int other, const char *to);
+int __wrap_renameat(int in, const char *from, int other, const char *to) {
+    return fails() ? -1 : __real_renameat(in, from, other, to);
+}
+int __real_mkdirat(int in, const char *name, mode_t mode);
+int __wrap_mkdirat(int in, const char *name, mode_t mode) {
+    return fails() ? -1 : __real_mkdirat(in, name, mode);
 }
 int __real_mkdir(const char *path, mode_t mode);
 int __wrap_mkdir(const char *path, mode_t mode) { return fails() ? -1 : __real_mkdir(path, mode); }

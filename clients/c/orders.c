@@ -20,60 +20,11 @@ enum { ORDERS_BEGIN = 1 << 16, ORDERS_KEPT = 1 << 21 };
 /* What is ordered, as crates/raft_orders numbers it. */
 enum { CREATE = 1, DELETE, RENAME, MAKE_FOLDER, WRITE, TRUNCATE, ALLOCATE, SYNC };
 
-/* A byte, a number and two lengths stand before the parts of an order; room for a path. */
-enum { HEAD = 25, PATH_ROOM = 4096 };
+/* A byte, a number and two lengths stand before the parts of an order. */
+enum { HEAD = 25 };
 
 /* The longest write that is joined to the one before it. */
 enum { JOINED = 1 << 14 };
-
-char *parts_joined(const char *folder, const char *name) {
-    size_t len = strlen(folder) + strlen(name) + 2;
-    char *path = malloc(len);
-    if (path) snprintf(path, len, *name ? "%s/%s" : "%s", folder, name);
-    return path;
-}
-
-int parts_sync(const char *path) {
-    int fd = open(path, O_RDONLY | O_CLOEXEC);
-    if (fd < 0) return errno;
-    int error = fsync(fd) ? errno : 0;
-    close(fd);
-    return error;
-}
-
-/* The name of what stands at the path stays through a crash. */
-int parts_sync_name(const char *path) {
-    char *parent = strdup(path);
-    if (!parent) return ENOMEM;
-    size_t len = strlen(parent);
-    while (len > 1 && parent[len - 1] == '/') parent[--len] = 0;
-    char *slash = strrchr(parent, '/');
-    if (!slash) strcpy(parent, len ? "." : "/");
-    else slash[slash == parent] = 0;
-    int error = parts_sync(parent);
-    free(parent);
-    return error;
-}
-
-/* Makes a folder with those on the way to it, and syncs the folder of each that it made. */
-int parts_make_folders(const char *path) {
-    char *place = strdup(path);
-    if (!place) return ENOMEM;
-    int error = 0;
-    for (size_t end = 1, len = strlen(place); !error && end <= len; end++) {
-        if (place[end] != '/' && place[end] != 0) continue;
-        char was = place[end];
-        struct stat found;
-        place[end] = 0;
-        if (!stat(place, &found)) error = S_ISDIR(found.st_mode) ? 0 : ENOTDIR;
-        else if (errno != ENOENT) error = errno;
-        else if (!mkdir(place, 0777)) error = parts_sync_name(place);
-        else if (errno != EEXIST) error = errno;
-        place[end] = was;
-    }
-    free(place);
-    return error;
-}
 
 void parts_let_file_go(raftlog *log) {
     heap_let_go(&log->behind);
@@ -87,11 +38,11 @@ void parts_let_file_go(raftlog *log) {
 static int open_file(raftlog *log, const char *path) {
     if (log->path && !strcmp(log->path, path)) return 0;
     parts_let_file_go(log);
-    char *place = parts_joined(log->folder, path);
-    if (!place) return ENOMEM;
-    log->file = open(place, O_RDWR | O_CLOEXEC);
+    const char *name;
+    int in = parts_folder_of(log, path, &name);
+    if (in < 0) return errno;
+    log->file = openat(in, name, O_RDWR | O_NOFOLLOW | O_CLOEXEC);
     int error = log->file < 0 ? errno : 0;
-    free(place);
     if (!error) heap_take_up(&log->behind, &log->heap, log->file);
     if (!error && !(log->path = strdup(path))) error = ENOMEM;
     return error;
@@ -169,41 +120,28 @@ static uint64_t now_ns(void) {
 static int sync_file(raftlog *log) {
     uint64_t began = now_ns();
     int error = fdatasync(log->file) ? errno : 0;
+    struct stat found;
+    /* A file that another program deleted is lost, although the system syncs it. */
+    if (!error && !fstat(log->file, &found) && !found.st_nlink) error = ESTALE;
     parts_add(&log->counts.syncs, 1);
     parts_add(&log->counts.sync_ns, now_ns() - began);
     if (!error) heap_synced(&log->behind);
     return error;
 }
 
-/* Whether a file can come to a place: nothing stands there, or a plain file, which was read. */
-static int look_at(const char *place) {
-    struct stat found;
-    if (lstat(place, &found)) return errno == ENOENT ? 0 : errno;
-    return S_ISREG(found.st_mode) && found.st_nlink == 1 ? 0 : EEXIST;
-}
-
-/* Carries out what is done to names: their folders are synced, so that a crash leaves the new names. */
+/* Carries out what is done to names. */
 static int order_names(raftlog *log, int kind, const char *path, const char *to) {
     parts_let_file_go(log);
-    char *place = parts_joined(log->folder, path), *other = parts_joined(log->folder, to);
-    int error = !place || !other ? ENOMEM : 0, fd;
-    if (!error && (kind == CREATE || kind == RENAME)) error = look_at(kind == CREATE ? place : other);
-    if (!error && kind == CREATE) {
-        fd = open(place, O_RDWR | O_CREAT | O_CLOEXEC, 0666);
-        if (fd < 0) error = errno;
-        else close(fd);
-        if (!error) error = parts_sync_name(place);
-    } else if (!error && kind == DELETE) {
-        error = unlink(place) ? errno : parts_sync_name(place);
-    } else if (!error && kind == RENAME) {
-        error = rename(place, other) ? errno : parts_sync_name(other);
-        if (!error) error = parts_sync_name(place);
-    } else if (!error) {
-        error = parts_make_folders(place);
-    }
-    free(place);
-    free(other);
-    return error;
+    int error = parts_keep_lock(log);
+    if (error) return error;
+    if (kind == MAKE_FOLDER) return parts_make_below(log, path);
+    const char *name, *next;
+    int in = parts_folder_of(log, path, &name);
+    if (in < 0) return errno;
+    if (kind == CREATE) return parts_make_file(in, name);
+    if (kind == DELETE) return parts_delete_file(in, name);
+    int other = parts_folder_of(log, to, &next);
+    return other < 0 ? errno : parts_rename_file(in, name, other, next);
 }
 
 /* An order as it was given: `bytes` are those of a write, or of a name. */
@@ -223,7 +161,7 @@ static const char *text_of(char *room, const uint8_t *bytes, size_t len) {
 
 static int carry_out(raftlog *log, const struct order *order, const char *path) {
     if (order->kind < WRITE) {
-        char to[PATH_ROOM];
+        char to[PARTS_PATH_ROOM];
         if (order->len >= sizeof to) return EINVAL;
         return order_names(log, order->kind, path, text_of(to, order->bytes, order->len));
     }
@@ -252,9 +190,20 @@ void parts_break(raftlog *log, const char *why) {
              "%.300s; the log has failed: close it, and open its folder again", why);
 }
 
+/* What the system's error says here, if that is more than its own text. */
+static const char *cause_of(const raftlog *log, int error) {
+    struct stat found;
+    bool is_missing = error == ENOENT || error == ESTALE;
+    if (is_missing && !fstat(log->root, &found) && !found.st_nlink) return "the folder was removed";
+    if (error == ESTALE) return "another program deleted it";
+    if (error == EBUSY) return "LOCK was replaced, and another process has the folder";
+    if (error == ELOOP) return "it is a link, and links are not followed";
+    return strerror(error);
+}
+
 static void break_at(raftlog *log, const char *doing, const char *path, int error) {
     char why[300];
-    snprintf(why, sizeof why, "%s %.200s: %s", doing, path, strerror(error));
+    snprintf(why, sizeof why, "%s %.100s: %s, in %.140s", doing, path, cause_of(log, error), log->folder);
     parts_break(log, why);
 }
 
@@ -264,7 +213,7 @@ static bool read_order(const raftlog *log, size_t *place, struct order *order) {
     size_t left = log->given - *place;
     if (left < HEAD) return false;
     uint64_t first = parts_number(at + 9), second = parts_number(at + 17);
-    if (first >= PATH_ROOM || left - HEAD < first || left - HEAD - first < second) return false;
+    if (first >= PARTS_PATH_ROOM || left - HEAD < first || left - HEAD - first < second) return false;
     *order = (struct order){*at, parts_number(at + 1), at + HEAD, at + HEAD + first, first, second};
     *place += HEAD + first + second;
     return true;
@@ -288,7 +237,7 @@ static void join(const raftlog *log, size_t *place, struct order *write) {
 
 static int obey_one(raftlog *log, size_t *place) {
     struct order order;
-    char room[PATH_ROOM];
+    char room[PARTS_PATH_ROOM];
     if (!read_order(log, place, &order)) return EINVAL;
     if (order.kind == WRITE && *place < log->given) join(log, place, &order);
     const char *path = text_of(room, order.path, order.path_len);

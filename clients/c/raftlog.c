@@ -44,11 +44,13 @@ char *parts_answered_text(raftlog *log) {
 /* ---- opening and closing */
 
 static void let_go(raftlog *log) {
+    parts_remove_open(log);
     heap_end(&log->heap);
     parts_let_file_go(log);
     if (log->handle.at) raft_c_free(&log->handle);
     free(log->orders);
-    if (log->held >= 0) close(log->held);
+    parts_unlock(log);
+    parts_let_folders_go(log);
     for (size_t i = 0; i < log->cut_count; i++) free((char *)log->cuts[i].path);
     free(log->cuts);
     pthread_mutex_destroy(&log->lock);
@@ -59,7 +61,8 @@ static void let_go(raftlog *log) {
 static raftlog *new_log(void) {
     raftlog *log = calloc(1, sizeof *log);
     if (!log) return NULL;
-    log->held = log->file = -1;
+    log->root = log->held = log->file = -1;
+    log->forks = atomic_load(&parts_forks);
     atomic_init(&log->lost, UINT64_MAX);
     if (!pthread_mutex_init(&log->lock, NULL)) return log;
     free(log);
@@ -89,14 +92,18 @@ static int open_log(const char *folder, const char *settings, raftlog_progress *
     if (!text) room = 0;
     if (room) text[0] = 0;
     raftlog *log = new_log();
-    if (!log) return RAFTLOG_NO_MEMORY;
+    if (!log) return parts_put_text(raftlog_code_text(RAFTLOG_NO_MEMORY), text, room), RAFTLOG_NO_MEMORY;
     log->watch = watch;
     log->watch_with = with;
     int code =
         folder && !(log->folder = strdup(folder)) ? RAFTLOG_NO_MEMORY : raft_c_begin(&log->handle);
-    if (code) return let_go(log), code;
+    if (code) return parts_put_text(raftlog_code_text(code), text, room), let_go(log), code;
+    int was;
+    pthread_setcancelstate(PTHREAD_CANCEL_DISABLE, &was);
+    parts_add_open(log);
     if (folder) code = parts_find(log, text, room);
     if (!code) code = open_found(log, settings, text, room);
+    pthread_setcancelstate(was, NULL);
     if (code) return let_go(log), code;
     atomic_store(&log->counts.syncs, 0);
     atomic_store(&log->counts.bytes, 0);
@@ -134,8 +141,19 @@ size_t raftlog_cuts(raftlog *log, raftlog_cut *cuts, size_t room) {
     return log->cut_count;
 }
 
+/* In a child that was forked: frees memory alone. Nothing is freed if a thread of the parent was in a call on the log, since
+ * what that call had in hand may be half done. */
+static int close_forked(raftlog *log) {
+    bool was_in_call = atomic_load(&log->newest) || atomic_load(&log->reading);
+    int code = parts_fail(log, RAFTLOG_FAILED, strdup(parts_forked_text));
+    if (log->folder_count) log->folders[0].fd = log->root;
+    if (!was_in_call) let_go(log);
+    return code;
+}
+
 int raftlog_close(raftlog *log) {
     int code = RAFTLOG_OK;
+    if (log && parts_is_forked(log)) return close_forked(log);
     if (log && parts_close(log, &code)) let_go(log);
     return code;
 }
@@ -143,7 +161,7 @@ int raftlog_close(raftlog *log) {
 int raftlog_stats(raftlog *log, raftlog_counts *counts) {
     if (!log) return RAFTLOG_INVALID;
     if (!counts) return parts_fail(log, RAFTLOG_INVALID, NULL);
-    if (!parts_begin_read(log)) return parts_fail(log, RAFTLOG_FAILED, NULL);
+    if (!parts_begin_read(log)) return parts_fail_closed(log);
     /* In this turn, so that no part is greater than its whole. */
     counts->sync_ns = log->counts.sync_ns;
     counts->batches = log->counts.batches;
@@ -259,7 +277,7 @@ int raftlog_purge_expired_files(raftlog *log, raftlog_bytes *groups) {
 
 /* Begins a read, with the lock held where it answers 0. */
 static int begin(raftlog *log) {
-    if (!parts_begin_read(log)) return parts_fail(log, RAFTLOG_FAILED, NULL);
+    if (!parts_begin_read(log)) return parts_fail_closed(log);
     pthread_mutex_lock(&log->lock);
     return RAFTLOG_OK;
 }
@@ -279,7 +297,7 @@ static int end(raftlog *log, int code, uint64_t round) {
     pthread_mutex_unlock(&log->lock);
     if (!parts_wait_for(log, round) || code == RAFTLOG_FAILED) {
         free(text);
-        text = strdup(log->broken);
+        text = *log->broken ? strdup(log->broken) : NULL;
         code = RAFTLOG_FAILED;
     }
     if (code != RAFTLOG_OK && code != RAFTLOG_ABSENT) parts_fail(log, code, text);

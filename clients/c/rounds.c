@@ -19,6 +19,7 @@ enum { WAITS, LEADS, IS_ANSWERED };
 
 /* Whoever comes behind this finds a closed log. */
 static struct parts_change closed;
+static const char closed_text[] = "the log is closed";
 
 /* The caller of a change that was answered may be gone, and a log that no read is in any more
  * freed. So a wake-up may go to an address that is another's by then, who looks again, as each one
@@ -366,12 +367,19 @@ static void lead(raftlog *log, struct parts_change *mine) {
 /* Waits for the lead: false where another leader answered. */
 static inline bool comes_to_lead(raftlog *log, struct parts_change *mine) {
     struct parts_change *older = put_in_queue(log, mine);
-    if (older == &closed) return fail(mine, RAFTLOG_FAILED, "the log is closed"), false;
+    if (older == &closed) return fail(mine, RAFTLOG_FAILED, closed_text), false;
     return !older || await(mine) == LEADS;
 }
 
+/* A thread that is cancelled ends here, before its change is in the queue, or after its call: nobody else could go on with
+ * a round whose leader has ended. */
 int parts_take_turn(raftlog *log, struct parts_change *mine) {
+    if (parts_is_forked(log)) return fail(mine, RAFTLOG_FAILED, parts_forked_text), mine->code;
+    int was;
+    pthread_testcancel();
+    pthread_setcancelstate(PTHREAD_CANCEL_DISABLE, &was);
     if (comes_to_lead(log, mine)) lead(log, mine);
+    pthread_setcancelstate(was, NULL);
     return mine->code;
 }
 
@@ -381,7 +389,12 @@ void parts_end_read(raftlog *log) {
     if (atomic_fetch_sub(&log->reading, 1) == PARTS_CLOSING + 1) wake(&log->reading, 1);
 }
 
+int parts_fail_closed(raftlog *log) {
+    return parts_fail(log, RAFTLOG_FAILED, strdup(parts_is_forked(log) ? parts_forked_text : closed_text));
+}
+
 bool parts_begin_read(raftlog *log) {
+    if (parts_is_forked(log)) return false;
     if (!(atomic_fetch_add(&log->reading, 1) & PARTS_CLOSING)) return true;
     parts_end_read(log);
     return false;
@@ -400,6 +413,8 @@ bool parts_wait_for(raftlog *log, uint64_t round) {
 
 bool parts_close(raftlog *log, int *code) {
     struct parts_change mine = {.kind = PARTS_CLOSE};
+    int was;
+    pthread_setcancelstate(PTHREAD_CANCEL_DISABLE, &was);
     atomic_fetch_or(&log->reading, PARTS_CLOSING);
     bool leads = comes_to_lead(log, &mine);
     if (leads) {
@@ -410,10 +425,11 @@ bool parts_close(raftlog *log, int *code) {
         struct parts_change *late = atomic_exchange(&log->newest, &closed), *older;
         for (; late != &mine; late = older) {
             older = late->older;
-            fail(late, RAFTLOG_FAILED, "the log is closed");
+            fail(late, RAFTLOG_FAILED, closed_text);
             tell(late, IS_ANSWERED);
         }
     }
+    pthread_setcancelstate(was, NULL);
     free(mine.text);
     *code = mine.code;
     return leads;
