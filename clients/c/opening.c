@@ -67,7 +67,7 @@ static int add_file(struct found *found, char *path, uint64_t size) {
 }
 
 /* Sixteen digits and what tells the queue, as crates/raft_disk has it. */
-static bool is_log_name(const char *name) {
+bool parts_is_log_name(const char *name) {
     int digits = 0;
     while (isdigit((unsigned char)name[digits])) digits++;
     const char *end = name + digits;
@@ -91,13 +91,13 @@ static bool is_copy(const char *name) {
     if (len < end || len - end >= sizeof log_name || strcmp(name + len - end, PARTS_MOVED)) return false;
     memcpy(log_name, name, len - end);
     log_name[len - end] = 0;
-    return is_log_name(log_name);
+    return parts_is_log_name(log_name);
 }
 
 /* Takes the path of what a folder holds under this name, or frees it. What isn't the log's is passed over: no order
  * reaches it. */
 static int find_at(raftlog *log, struct found *found, int in, char *path, const char *name) {
-    bool is_log = is_log_name(name), is_taken = false;
+    bool is_log = parts_is_log_name(name), is_taken = false;
     struct stat is;
     int code = RAFTLOG_OK;
     if (!path) return fail(found, NULL, ENOMEM);

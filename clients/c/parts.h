@@ -274,5 +274,9 @@ int parts_fail(const raftlog *log, int code, char *text);
 
 /* Makes and locks the folder, and hands what stands in it over: a code, for a failure a text. */
 int parts_find(raftlog *log, char *text, size_t room);
+bool parts_is_log_name(const char *name);
+
+/* Why an opening found corruption: the first damage of a log file, and its place. */
+void parts_tell_damage(const raftlog *log, char *text, size_t room);
 
 #endif

@@ -144,6 +144,35 @@ static void left_copies(void) {
     CHECK(raftlog_close(log) == 0);
 }
 
+static void change_byte(const char *path, long at) {
+    FILE *file = fopen(path, "r+b");
+    CHECK(file && !fseek(file, at, SEEK_SET));
+    int byte = fgetc(file);
+    CHECK(!fseek(file, at, SEEK_SET) && fputc(byte ^ 1, file) != EOF && !fclose(file));
+}
+
+/* A log file is damaged: the text names it, and the byte at which its first broken record begins. */
+static void damaged(const char *here) {
+    static const struct { long at; const char *said; } rows[] = {
+        {0, "corruption at byte 0: this is no log file's header"},
+        {69, "corruption at byte 69: "},
+        {69 + 16 + 40, "corruption at byte 69: a record's checksum is wrong"},
+    };
+    char text[TEXT_ROOM], place[TEXT_ROOM];
+    raftlog *log = open_with("damaged", SMALL_FILES);
+    put_all(log, 'k', 0);
+    CHECK(raftlog_close(log) == 0);
+    snprintf(place, sizeof place, "%s/damaged/0000000000000002.raftlog: ", here);
+    for (size_t i = 0; i < sizeof rows / sizeof *rows; i++) {
+        change_byte("damaged/0000000000000002.raftlog", rows[i].at);
+        CHECK(raftlog_open("damaged", SMALL_FILES, &log, text, sizeof text) == RAFTLOG_CORRUPTION && !log);
+        if (strncmp(text, place, strlen(place)) || !strstr(text, rows[i].said)) printf("%s\n", text);
+        CHECK(!strncmp(text, place, strlen(place)) && strstr(text, rows[i].said));
+        change_byte("damaged/0000000000000002.raftlog", rows[i].at);
+    }
+    CHECK(count_in("damaged", SMALL_FILES, 'k', KEYS) == KEYS);
+}
+
 /* The texts of openings give the path from the root, and the system's cause. */
 static void texts(const char *here) {
     char text[TEXT_ROOM], place[TEXT_ROOM];
@@ -177,6 +206,7 @@ int main(int argc, char **argv) {
     spill_is_link();
     spill_is_moved();
     left_copies();
+    damaged(here);
     texts(here);
     puts("ok");
     return 0;

@@ -80,6 +80,7 @@ static int open_found(raftlog *log, const char *settings, char *text, size_t roo
     parts_leave();
     log->is_opening = false;
     if (!code) return RAFTLOG_OK;
+    if (code == RAFTLOG_CORRUPTION && log->folder && room) return parts_tell_damage(log, text, room), code;
     char *said = *log->broken ? NULL : parts_answered_text(log);
     parts_put_text(said ? said : *log->broken ? log->broken : raftlog_code_text(code), text, room);
     free(said);
@@ -290,10 +291,18 @@ static int begin_bytes(raftlog *log, raftlog_bytes *bytes) {
     return begin(log);
 }
 
+static char *corruption_text(const raftlog *log) {
+    char *text;
+    const char *said = "corruption: bytes of a log file can't be read, or were changed by another program, in";
+    return asprintf(&text, "%s %s", said, log->folder) < 0 ? NULL : text;
+}
+
 /* Ends a read that saw nothing of a later round than this one. The log isn't looked at after. */
 static int end(raftlog *log, int code, uint64_t round) {
     bool fails = code != RAFTLOG_OK && code != RAFTLOG_ABSENT;
-    char *text = fails && code != RAFTLOG_NO_MEMORY ? parts_answered_text(log) : NULL;
+    char *text = NULL;
+    if (code == RAFTLOG_CORRUPTION && log->folder) text = corruption_text(log);
+    else if (fails && code != RAFTLOG_NO_MEMORY) text = parts_answered_text(log);
     pthread_mutex_unlock(&log->lock);
     if (!parts_wait_for(log, round) || code == RAFTLOG_FAILED) {
         free(text);

@@ -76,9 +76,14 @@ for _name, _result, _arguments in [
 
 
 class Error(Exception):
+    """A call failed, for the reason `code`. It can be pickled, so it passes from a worker process to its pool."""
+
     def __init__(self, code, text):
         super().__init__(text or _C.raftlog_code_text(code).decode())
         self.code = code
+
+    def __reduce__(self):
+        return Error, (self.code, str(self))
 
 
 def survive_bus_errors():
