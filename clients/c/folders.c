@@ -140,6 +140,11 @@ int parts_make_below(raftlog *log, const char *path) {
     return error;
 }
 
+bool parts_has_name(int in, const char *name) {
+    struct stat found;
+    return !fstatat(in, name, &found, AT_SYMLINK_NOFOLLOW);
+}
+
 /* Whether a file can get this name: there is none, or a plain file, which was read. */
 static int look_at(int in, const char *name) {
     struct stat found;

@@ -28,7 +28,7 @@ static void all_fail(raftlog *log) {
     CHECK(raftlog_scan(log, 1, NULL, NULL, false, 0, &bytes) == RAFTLOG_FAILED && says(log, told));
     CHECK(raftlog_groups(log, &bytes) == RAFTLOG_FAILED && says(log, told));
     CHECK(raftlog_expect_reads(log, true) == RAFTLOG_FAILED && says(log, told));
-    CHECK(raftlog_stats(log, &counts) == RAFTLOG_FAILED && says(log, told));
+    CHECK(raftlog_stats(log, &counts, sizeof counts) == RAFTLOG_FAILED && says(log, told));
     CHECK(raftlog_close(log) == RAFTLOG_FAILED);
     raftlog_bytes_free(&bytes);
 }

@@ -223,6 +223,7 @@ static int load_files(raftlog *log, struct found *found) {
         done += found->files[i].size;
     }
     if (log->watch && !code) log->watch(log->watch_with, found->size, found->size);
+    parts_add(&log->counts.files, found->count);
     return code;
 }
 

@@ -107,26 +107,47 @@ static int cut_file(raftlog *log, const char *path, uint64_t size) {
 
 static int write_file(raftlog *log, const uint8_t *bytes, size_t len, uint64_t at) {
     parts_add(&log->counts.bytes, len);
+    parts_add(&log->counts.writes, 1);
     heap_before_write(&log->behind, at, len);
     return write_at(log->file, bytes, len, at);
 }
 
-static uint64_t now_ns(void) {
+uint64_t parts_now_ns(void) {
     struct timespec t;
     clock_gettime(CLOCK_MONOTONIC, &t);
     return (uint64_t)t.tv_sec * 1000000000u + (uint64_t)t.tv_nsec;
 }
 
+static void count_sync(struct parts_counts *counts, uint64_t ns) {
+    uint64_t microseconds = ns / 1000;
+    int class = microseconds ? 64 - __builtin_clzll(microseconds) : 0;
+    parts_add(&counts->syncs, 1);
+    parts_add(&counts->sync_ns, ns);
+    parts_raise(&counts->longest_sync_ns, ns);
+    parts_add(&counts->sync_times[class < RAFTLOG_TIMES ? class : RAFTLOG_TIMES - 1], 1);
+}
+
 static int sync_file(raftlog *log) {
-    uint64_t began = now_ns();
+    uint64_t began = parts_now_ns();
     int error = fdatasync(log->file) ? errno : 0;
     struct stat found;
     /* A file that another program deleted is lost, although the system syncs it. */
     if (!error && !fstat(log->file, &found) && !found.st_nlink) error = ESTALE;
-    parts_add(&log->counts.syncs, 1);
-    parts_add(&log->counts.sync_ns, now_ns() - began);
+    count_sync(&log->counts, parts_now_ns() - began);
     if (!error) heap_synced(&log->behind);
     return error;
+}
+
+static bool is_reserved(const char *name) { return strstr(name, ".reserved"); }
+
+/* Counts an order on names that was carried out. One that takes the place of a file adds none. */
+static void count_names(struct parts_counts *counts, int kind, const char *last, bool had_place) {
+    bool is_next = kind != DELETE && !is_reserved(last);
+    if (is_next) parts_add(&counts->next_files, 1);
+    if (is_next && kind == RENAME) parts_add(&counts->recycled_files, 1);
+    if (kind == DELETE) parts_add(&counts->deleted_files, 1);
+    int more = (kind == CREATE) - (kind == DELETE) - (had_place && kind != DELETE);
+    parts_add(&counts->files, (uint64_t)(int64_t)more);
 }
 
 /* Carries out what is done to names. */
@@ -137,11 +158,14 @@ static int order_names(raftlog *log, int kind, const char *path, const char *to)
     if (kind == MAKE_FOLDER) return parts_make_below(log, path);
     const char *name, *next;
     int in = parts_folder_of(log, path, &name);
-    if (in < 0) return errno;
-    if (kind == CREATE) return parts_make_file(in, name);
-    if (kind == DELETE) return parts_delete_file(in, name);
-    int other = parts_folder_of(log, to, &next);
-    return other < 0 ? errno : parts_rename_file(in, name, other, next);
+    int other = in < 0 ? in : parts_folder_of(log, kind == RENAME ? to : path, &next);
+    if (other < 0) return errno;
+    bool had_place = parts_has_name(other, next);
+    if (kind == CREATE) error = parts_make_file(in, name);
+    else if (kind == DELETE) error = parts_delete_file(in, name);
+    else error = parts_rename_file(in, name, other, next);
+    if (!error) count_names(&log->counts, kind, next, had_place);
+    return error;
 }
 
 /* An order as it was given: `bytes` are those of a write, or of a name. */
@@ -208,7 +232,7 @@ static void break_at(raftlog *log, const char *doing, const char *path, int erro
 }
 
 /* Reads the order at a place, and goes behind it: false where there is none. */
-static bool read_order(const raftlog *log, size_t *place, struct order *order) {
+static inline bool read_order(const raftlog *log, size_t *place, struct order *order) {
     const uint8_t *at = log->orders + *place;
     size_t left = log->given - *place;
     if (left < HEAD) return false;
@@ -248,7 +272,7 @@ static int obey_one(raftlog *log, size_t *place) {
 
 static int obey_all(raftlog *log) {
     int error = *log->broken ? EIO : 0;
-    if (!error && heap_opening_lost(&log->heap)) {
+    if (!error && !log->heap.was_opened && heap_opening_lost(&log->heap)) {
         error = EIO;
         break_at(log, "reading", "a log file again", error);
     }

@@ -130,6 +130,9 @@ struct raftlog {
     _Atomic uint64_t lost;                 /* the round whose orders failed; none: UINT64_MAX */
     struct parts_counts {
         _Atomic uint64_t changes, batches, synced_changes, largest_round, syncs, bytes, sync_ns;
+        _Atomic uint64_t writes, longest_sync_ns, sync_times[RAFTLOG_TIMES];
+        _Atomic uint64_t next_files, recycled_files, deleted_files, files;
+        _Atomic uint64_t purges, purge_ns, longest_purge_ns;
     } counts;
     pthread_mutex_t lock;
     raft_c_handle handle; /* of a log, from its opening to its close */
@@ -182,6 +185,7 @@ int parts_make_below(raftlog *log, const char *path);
 int parts_make_file(int in, const char *name);
 int parts_delete_file(int in, const char *name);
 int parts_rename_file(int in, const char *name, int other, const char *next);
+bool parts_has_name(int in, const char *name);
 
 /* Holds a folder. The descriptor is the log's after 0, else it is closed. */
 int parts_hold(raftlog *log, const char *path, size_t len, int fd);
@@ -252,6 +256,13 @@ static inline void parts_add(_Atomic uint64_t *count, uint64_t more) {
     uint64_t sum = atomic_load_explicit(count, memory_order_relaxed) + more;
     atomic_store_explicit(count, sum, memory_order_release);
 }
+
+static inline void parts_raise(_Atomic uint64_t *greatest, uint64_t number) {
+    if (atomic_load_explicit(greatest, memory_order_relaxed) < number)
+        atomic_store_explicit(greatest, number, memory_order_release);
+}
+
+uint64_t parts_now_ns(void);
 
 /* The last round that changed a group, and may not be over. Under `lock`. */
 static inline uint64_t *parts_touched(raftlog *log, uint64_t group) {

@@ -87,6 +87,13 @@ static int open_found(raftlog *log, const char *settings, char *text, size_t roo
     return code;
 }
 
+/* What the opening itself did isn't counted; how many files there are is. */
+static void forget_opening(struct parts_counts *counts) {
+    uint64_t files = atomic_load(&counts->files);
+    memset(counts, 0, sizeof *counts);
+    atomic_store(&counts->files, files);
+}
+
 static int open_log(const char *folder, const char *settings, raftlog_progress *watch, void *with,
                     raftlog **out, char *text, size_t room) {
     *out = NULL;
@@ -106,9 +113,7 @@ static int open_log(const char *folder, const char *settings, raftlog_progress *
     if (!code) code = open_found(log, settings, text, room);
     pthread_setcancelstate(was, NULL);
     if (code) return let_go(log), code;
-    atomic_store(&log->counts.syncs, 0);
-    atomic_store(&log->counts.bytes, 0);
-    atomic_store(&log->counts.sync_ns, 0);
+    forget_opening(&log->counts);
     /* A failure of a log that was closed, and had this address. */
     parts_fail(log, RAFTLOG_OK, NULL);
     *out = log;
@@ -159,20 +164,38 @@ int raftlog_close(raftlog *log) {
     return code;
 }
 
-int raftlog_stats(raftlog *log, raftlog_counts *counts) {
+/* In this turn, so that no part is greater than its whole. */
+static void copy_counts(const raftlog *log, raftlog_counts *to) {
+    const struct parts_counts *from = &log->counts;
+    for (int i = 0; i < RAFTLOG_TIMES; i++) to->sync_times[i] = from->sync_times[i];
+    to->longest_sync_ns = from->longest_sync_ns;
+    to->longest_purge_ns = from->longest_purge_ns;
+    to->purge_ns = from->purge_ns;
+    to->purges = from->purges;
+    to->recycled_files = from->recycled_files;
+    to->next_files = from->next_files;
+    to->deleted_files = from->deleted_files;
+    to->files = from->files;
+    to->sync_ns = from->sync_ns;
+    to->batches = from->batches;
+    to->synced_changes = from->synced_changes;
+    to->largest_round = from->largest_round;
+    to->changes = from->changes;
+    to->rounds = log->done;
+    to->syncs = from->syncs;
+    to->writes = from->writes;
+    to->bytes = from->bytes;
+}
+
+int raftlog_stats(raftlog *log, raftlog_counts *counts, size_t size) {
+    raftlog_counts all = {0};
     if (!log) return RAFTLOG_INVALID;
-    if (!counts) return parts_fail(log, RAFTLOG_INVALID, NULL);
+    if (!counts || !size) return parts_fail(log, RAFTLOG_INVALID, NULL);
     if (!parts_begin_read(log)) return parts_fail_closed(log);
-    /* In this turn, so that no part is greater than its whole. */
-    counts->sync_ns = log->counts.sync_ns;
-    counts->batches = log->counts.batches;
-    counts->synced_changes = log->counts.synced_changes;
-    counts->largest_round = log->counts.largest_round;
-    counts->changes = log->counts.changes;
-    counts->rounds = log->done;
-    counts->syncs = log->counts.syncs;
-    counts->bytes = log->counts.bytes;
+    copy_counts(log, &all);
     parts_end_read(log);
+    memcpy(counts, &all, size < sizeof all ? size : sizeof all);
+    if (size > sizeof all) memset((uint8_t *)counts + sizeof all, 0, size - sizeof all);
     return RAFTLOG_OK;
 }
 

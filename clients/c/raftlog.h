@@ -188,10 +188,14 @@ int raftlog_close(raftlog *log);
  * alone. Of a file call that failed it names the file and the cause. */
 size_t raftlog_message(raftlog *log, char *text, size_t room);
 
+/* Syncs are counted in classes by their times: the first class has those under a microsecond, each next one those under
+ * twice as long, and the last one the others (4 s or more). */
+enum { RAFTLOG_TIMES = 24 };
+
 /* What a log did since it was opened, in rounds that are over. The mean number of changes that share a
  * round is changes / rounds, and a sync takes sync_ns / syncs. Where nothing is purged, and no file is
- * full, synced_changes / syncs share a sync: a purge and a next file have syncs of their own. It may
- * grow at its end from one RAFTLOG_VERSION to the next: a library goes with its own header. */
+ * full, synced_changes / syncs share a sync: a purge and a next file have syncs of their own. Hits of the block cache, the
+ * index's memory and the files that are kept for reuse are not counted. It grows at its end from one version to the next. */
 typedef struct {
     uint64_t rounds;
     uint64_t changes;        /* in them: writes, syncs, compactions, purges */
@@ -201,10 +205,22 @@ typedef struct {
     uint64_t bytes;          /* that were written to log files */
     uint64_t sync_ns;        /* that these syncs took (fdatasync), in nanoseconds */
     uint64_t batches;        /* of the changes, writes that were done */
+    uint64_t writes;         /* calls of the system that wrote these bytes */
+    uint64_t longest_sync_ns;
+    uint64_t sync_times[RAFTLOG_TIMES]; /* syncs by classes */
+    uint64_t next_files;     /* that a queue went on to */
+    uint64_t recycled_files; /* of these, those that were dropped or reserved files before */
+    uint64_t deleted_files;
+    uint64_t purges;         /* calls that were carried out, a short one too */
+    uint64_t purge_ns;       /* that these took, without their wait for a turn */
+    uint64_t longest_purge_ns;
+    uint64_t files;          /* that the folder has now, reserved ones too; 0 in memory */
 } raftlog_counts;
 
-/* Each number by itself is that of a moment of the call. */
-int raftlog_stats(raftlog *log, raftlog_counts *counts);
+/* `size` is sizeof(raftlog_counts) of the header with which the program was built: an older program gets its own part, and
+ * what an older library doesn't count is 0. Each number by itself is that of a moment of the call. It fails as RAFTLOG_INVALID
+ * if the size is 0. */
+int raftlog_stats(raftlog *log, raftlog_counts *counts, size_t size);
 
 /* What a code says. It lasts as long as the program. */
 const char *raftlog_code_text(int code);

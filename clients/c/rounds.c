@@ -269,6 +269,12 @@ static bool carry_out_one(raftlog *log, struct parts_change *change) {
     return true;
 }
 
+static void count_purge(struct parts_counts *counts, uint64_t ns) {
+    parts_add(&counts->purges, 1);
+    parts_add(&counts->purge_ns, ns);
+    parts_raise(&counts->longest_purge_ns, ns);
+}
+
 /* What a purge of the Append queue moves is moved in short calls before it, so that reads come between
  * them: the purge itself finds little. It ends where one is refused. */
 static bool move_ahead(raftlog *log, struct parts_change *purge) {
@@ -287,14 +293,21 @@ static bool move_ahead(raftlog *log, struct parts_change *purge) {
     return is_done;
 }
 
+static bool carry_out_purge(raftlog *log, struct parts_change *purge) {
+    uint64_t began = parts_now_ns();
+    bool is_done = purge->kind != PARTS_REWRITE_APPEND || move_ahead(log, purge);
+    if (is_done && !purge->code) is_done = carry_out_one(log, purge);
+    count_purge(&log->counts, parts_now_ns() - began);
+    return is_done;
+}
+
 static inline void carry_out(raftlog *log, struct round *round) {
     struct parts_change *first = round->first;
     if (*log->broken) {
         for (struct parts_change *at = first; at; at = after(round, at))
             fail(at, RAFTLOG_FAILED, log->broken);
     } else if (!first->older || is_alone(first)) {
-        bool is_done = first->kind != PARTS_REWRITE_APPEND || move_ahead(log, first);
-        if (is_done && !first->code) is_done = carry_out_one(log, first);
+        bool is_done = parts_is_purge(first) ? carry_out_purge(log, first) : carry_out_one(log, first);
         note_done(round, first);
         if (!is_done) give_up(log, round);
     } else {

@@ -18,13 +18,28 @@ class _Slice(ctypes.Structure):
 class Stats(ctypes.Structure):
     """What a log did since it was opened, in rounds that are over: how many rounds and changes (writes, syncs, compactions,
     purges) there were, how many of these asked for a sync and were done, the most changes of a round, the syncs of log
-    files (whoever asked for them), the bytes written to them, the nanoseconds that these syncs took, and how many of the
-    changes were writes that were done."""
+    files (whoever asked for them), the bytes written to them, the nanoseconds that these syncs took, how many of the
+    changes were writes that were done, and in how many calls of the system these bytes were written.
+
+    sync_times has the syncs by classes of their times: class i has those under 2**i microseconds, and not under the bound
+    of the one before; the last one has no bound. next_files are those that a queue went on to, and recycled_files those of
+    them that were dropped or reserved files before. purges counts calls, a short one too, and files those that the folder
+    has now, reserved ones too (0 in memory)."""
     _fields_ = [(name, c_uint64) for name in
-                ("rounds", "changes", "synced_changes", "largest_round", "syncs", "bytes", "sync_ns", "batches")]
+                ("rounds", "changes", "synced_changes", "largest_round", "syncs", "bytes", "sync_ns", "batches", "writes",
+                 "longest_sync_ns")]
+    _fields_ += [("sync_times", c_uint64 * 24)]
+    _fields_ += [(name, c_uint64) for name in
+                 ("next_files", "recycled_files", "deleted_files", "purges", "purge_ns", "longest_purge_ns", "files")]
+
+    def as_dict(self):
+        """The numbers by their names."""
+        values = {name: getattr(self, name) for name, _ in self._fields_}
+        values["sync_times"] = list(self.sync_times)
+        return values
 
     def __repr__(self):
-        return "Stats(%s)" % ", ".join("%s=%d" % (name, getattr(self, name)) for name, _ in self._fields_)
+        return "Stats(%s)" % ", ".join("%s=%s" % item for item in self.as_dict().items())
 
 
 class _Cut(ctypes.Structure):
@@ -46,7 +61,7 @@ for _name, _result, _arguments in [
     ("open_watched", c_int, [c_char_p, c_char_p, _Watch, c_void_p, POINTER(c_void_p), c_char_p, c_size_t]),
     ("open_memory", c_int, [c_char_p, POINTER(c_void_p), c_char_p, c_size_t]),
     ("close", c_int, [c_void_p]),
-    ("stats", c_int, [c_void_p, POINTER(Stats)]),
+    ("stats", c_int, [c_void_p, POINTER(Stats), c_size_t]),
     ("cuts", c_size_t, [c_void_p, POINTER(_Cut), c_size_t]),
     ("message", c_size_t, [c_void_p, c_char_p, c_size_t]),
     ("code_text", c_char_p, [c_int]),
@@ -207,7 +222,7 @@ class Engine:
 
     def stats(self):
         stats = Stats()
-        self._call("stats", byref(stats))
+        self._call("stats", byref(stats), ctypes.sizeof(stats))
         return stats
 
     def cuts(self):
