@@ -66,6 +66,9 @@ extern "C" {
 
 #define RAFTLOG_VERSION "0.1.0"
 
+/* The version of the library that is loaded. RAFTLOG_VERSION is that of this header, which may be an older one. */
+const char *raftlog_version(void);
+
 enum {
     RAFTLOG_OK = 0,
     /* The folder, a setting, a key, a bound or the bytes of a batch are refused, or a NULL that has to be something. */

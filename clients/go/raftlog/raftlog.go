@@ -1,11 +1,9 @@
-// Package raftlog is a log for many Raft groups in a folder, whose engine is proved in Rattle. It calls libraftlog.a,
-// which `make -C clients/c` builds.
+// Package raftlog is a log for many Raft groups in a folder, whose engine is proved in Rattle. It calls libraftlog:
+// clients/c/build/libraftlog.a of the checkout, or with the build tag raftlog_installed the installed one, by pkg-config.
 package raftlog
 
-// #cgo CFLAGS: -I${SRCDIR}/../../c
-// #cgo LDFLAGS: ${SRCDIR}/../../c/build/libraftlog.a -lpthread -lm
 // #include <stdlib.h>
-// #include "raftlog.h"
+// #include <raftlog.h>
 //
 // // A failure's text is that of a thread, which a goroutine may leave after a call: so each call brings
 // // the text along, which is freed by free.

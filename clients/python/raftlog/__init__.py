@@ -1,13 +1,40 @@
-"""A log for many Raft groups in a folder, over libraftlog.so (RAFTLOG_SO, else clients/c/build/libraftlog.so)."""
+"""A log for many Raft groups in a folder, over the shared library libraftlog: that of the path RAFTLOG_SO, else the one that
+this package carries, that `make -C clients/c` builds in a checkout, that pkg-config knows, or that the system finds."""
 import ctypes
 import os
 import struct
+import subprocess
 from ctypes import POINTER, byref, c_bool, c_char_p, c_int, c_size_t, c_uint64, c_uint8, c_void_p
 
 _HERE = os.path.dirname(os.path.abspath(__file__))
-_C = ctypes.CDLL(os.environ.get("RAFTLOG_SO", os.path.join(_HERE, "../c/build/libraftlog.so")))
+_NAME = "libraftlog.so.0"
+
+
+def _installed():
+    """The folder of the library that pkg-config knows, or None."""
+    try:
+        asked = subprocess.run(["pkg-config", "--variable=libdir", "raftlog"], capture_output=True, text=True)
+    except OSError:
+        return None
+    return asked.stdout.strip() if asked.returncode == 0 else None
+
+
+def _load():
+    if "RAFTLOG_SO" in os.environ:
+        return ctypes.CDLL(os.environ["RAFTLOG_SO"])
+    for folder in (_HERE, os.path.join(_HERE, "../../c/build"), _installed()):
+        if folder and os.path.exists(os.path.join(folder, _NAME)):
+            return ctypes.CDLL(os.path.join(folder, _NAME))
+    try:
+        return ctypes.CDLL(_NAME)
+    except OSError as error:
+        raise ImportError("%s isn't found: set RAFTLOG_SO to its path, or install it (make -C clients/c install): %s"
+                          % (_NAME, error)) from None
+
+
+_C = _load()
 INVALID, IO, TRY_AGAIN, GAP, COMPACTED, NO_ENTRY, FAILED, ABSENT, IN_USE, FOLDER = 1, 3, 4, 5, 7, 8, 11, 20, 30, 32
-CORRUPTION, STALE_NUMBER = 2, 18
+CORRUPTION, NO_MEMORY, STALE_NUMBER, NOT_PLAIN = 2, 12, 18, 31
 _Watch = ctypes.CFUNCTYPE(None, c_void_p, c_uint64, c_uint64)
 
 
