@@ -51,12 +51,12 @@
  * Reads. A read sees each change whose call returned before the read began. It may see a change whose call has not
  * returned, as a whole; then the read returns after that change's round, and fails as RAFTLOG_FAILED if the round
  * failed. So what a read returns of a synced write survives a crash as the write itself does. A read waits for changes
- * of files and a sync only if the round changes its group, or one of the few groups that share its place in a table of
- * 4096 (`raftlog_groups`: any group), and for one round at most.
+ * of files and a sync of one round at most, and only if the round changes its group, or one of the few groups that
+ * share its place in a table of 4096 (`raftlog_groups`: any group).
  *   But calls enter the log itself in turn. There a read of any group waits for a read of entries that are not in
- * memory, and for a purge until it has moved all that it moves: a purge reads cold entries from the disk, and writes
- * them meanwhile except the last RAFTLOG_PURGE_BYTES. `raftlog_must_rewrite_append_queue` lets reads in after each
- * RAFTLOG_MOVED_BYTES, or after a group that has more. `raftlog_must_rewrite_append_groups` and
+ * memory, and for a purge until it has moved all that it moves. A purge reads cold entries from the disk; its writes,
+ * except the last RAFTLOG_PURGE_BYTES, are carried out meanwhile. `raftlog_must_rewrite_append_queue` lets reads in
+ * after each RAFTLOG_MOVED_BYTES, or after a group that has more. `raftlog_must_rewrite_append_groups` and
  * `raftlog_must_rewrite_rewrite_groups` let in writes too.
  *
  * What is proved, of the functions below these (crates/raft_c): of each code, what the log has done and what it
@@ -165,9 +165,9 @@ void raftlog_bytes_free(raftlog_bytes *bytes);
  * made. The settings are TOML, for example "target-file-size = \"64MB\"\nrecovery-mode = \"absolute-consistency\"".
  * Each that is not given has its default, and so have all if `settings` is NULL or "". Unknown keys are ignored. On a
  * failure `*out` is NULL, and `text` (which may be NULL) gets as much of the failure's text as fits in `room` bytes,
- * with a NUL at its end: what, at which absolute path, and the system's cause. It fails as RAFTLOG_INVALID (no folder,
- * or settings that are refused), RAFTLOG_IN_USE, RAFTLOG_NOT_PLAIN, RAFTLOG_FOLDER, RAFTLOG_CORRUPTION, RAFTLOG_LZ4,
- * RAFTLOG_RANGE or RAFTLOG_IO. */
+ * with a NUL at its end. The text has the absolute path and the system's cause. It fails as RAFTLOG_INVALID (no
+ * folder, or settings that are refused), RAFTLOG_IN_USE, RAFTLOG_NOT_PLAIN, RAFTLOG_FOLDER, RAFTLOG_CORRUPTION,
+ * RAFTLOG_LZ4, RAFTLOG_RANGE or RAFTLOG_IO. */
 int raftlog_open(const char *folder, const char *settings, raftlog **out, char *text, size_t room);
 
 /* Gets the progress of an opening: how many bytes of all files are read. When all are read, they are replayed, which
@@ -210,9 +210,9 @@ size_t raftlog_message(raftlog *log, char *text, size_t room);
 enum { RAFTLOG_TIMES = 24 };
 
 /* What a log has done since it was opened, in rounds that are over. On average changes / rounds changes share a round,
- * a sync takes sync_ns / syncs, and synced_changes / syncs share a sync if nothing is purged and no file is full: a
- * purge and a next file have syncs of their own. Hits of the block cache, the memory of the index and the files that
- * are kept for reuse are not counted. A later version may add numbers at the end. */
+ * and a sync takes sync_ns / syncs. A purge and a next file have syncs of their own; without these synced_changes /
+ * syncs changes share a sync. Hits of the block cache, the memory of the index and the files that are kept for reuse
+ * are not counted. A later version may add numbers at the end. */
 typedef struct {
     uint64_t rounds;
     uint64_t changes;        /* writes, syncs, compactions and purges in these rounds */
@@ -288,9 +288,8 @@ int raftlog_batch_compact(raftlog_batch *batch, uint64_t group, uint64_t index);
 
 /* Writes a batch, and empties it if that is done; else the batch is as it was. After RAFTLOG_OK with `sync` it
  * survives a crash, with all that was written before it; without `sync` it does after the next sync. It fails as
- * RAFTLOG_INVALID (a key with two underscores, or that of a number), RAFTLOG_GAP, RAFTLOG_RANGE or RAFTLOG_TRY_AGAIN,
- * after which the log is as it was; as RAFTLOG_IO, which fails the log; or as RAFTLOG_NO_MEMORY, after which the log
- * may have failed. */
+ * RAFTLOG_INVALID (a key with two underscores, or that of a number), RAFTLOG_GAP, RAFTLOG_RANGE or RAFTLOG_TRY_AGAIN;
+ * after these the log is as it was. After RAFTLOG_IO the log has failed, and after RAFTLOG_NO_MEMORY it may have. */
 int raftlog_write(raftlog *log, raftlog_batch *batch, bool sync);
 
 /* Writes a batch that acts once, however often it is written: with it each of the groups gets the number beside it,
@@ -336,9 +335,9 @@ int raftlog_must_rewrite_rewrite_queue(raftlog *log, uint64_t *count);
 int raftlog_must_purge_all_stale(raftlog *log, uint64_t *count);
 /* The first of them in short calls, between which others write. It drops no file. It writes again what the groups from
  * `*group` on have in the Append queue's files up to the number `*watermark`: of as many groups as have `budget` bytes
- * there together, but of one group at least, whatever it has. It stores in `*group` the group with which the next call
- * goes on, or 0 after the last, and in `*watermark`, if that was greater, the number of the last file. On a failure
- * both stay.
+ * there together, but of one group at least, whatever it has. It stores in `*group` the group of the next call, or 0
+ * after the last one. If `*watermark` was greater than the number of the last file, it stores that number there. On a
+ * failure both stay.
  *   uint64_t watermark = UINT64_MAX, group = 0;
  *   do code = raftlog_must_rewrite_append_groups(log, &watermark, &group, 1 << 20);
  *   while (code == RAFTLOG_OK && group);
@@ -348,11 +347,11 @@ int raftlog_must_rewrite_append_groups(raftlog *log, uint64_t *watermark, uint64
 
 /* The second of them in short calls, between which others write. The first call, with 0 as `*group`, begins a next
  * file of the Rewrite queue. Each call writes again what the groups from `*group` on have in that queue: of as many
- * groups as have `budget` bytes there together, but of one group at least, whatever it has. It stores the group with
- * which the next call goes on, or 0 after the last: then the files before are dropped, if each atomic group is
- * together in them, as this library writes it. On a failure `*group` stays. An opening or another purge, by any
- * thread, ends such calls, and a failure may: begin again with 0, else the files before stay. Calls that were left
- * half done are not ended: with 0 they go on with the same next file.
+ * groups as have `budget` bytes there together, but of one group at least, whatever it has. It stores the group of the
+ * next call, or 0 after the last one. Then the files before are dropped, if each atomic group is together in them, as
+ * this library writes it. On a failure `*group` stays. An opening or another purge, by any thread, ends such calls,
+ * and a failure may: begin again with 0, else the files before stay. Calls that were left half done are not ended:
+ * with 0 they continue with the same next file.
  *   uint64_t group = 0;
  *   do code = raftlog_must_rewrite_rewrite_groups(log, &group, 1 << 20);
  *   while (code == RAFTLOG_OK && group); */
