@@ -170,10 +170,10 @@ impl Armed {
 impl MemoryFileSystem {
     ghost use Rattle.raft_memory.specs.Memory.{memory_directory, memory_moments, memory_refusals, armed_of, stop_of};
 
-    /// Arms one more refusal: of the calls of that sort from now on the nth, counted from 1, and no
-    /// other fails so. A write that fails so has written the first half of its bytes,
-    /// rounded down, if all of them have room; where memory for the half is wanting, it has written
-    /// nothing and answers `Memory`. Any other call has changed nothing.
+    /// Arms one more refusal: from now on the nth call of that sort, counted from 1, and no other
+    /// fails so. A write that fails so has written the first half of its bytes, rounded down, if
+    /// all of them have room. Without memory for the half it has written nothing and fails as
+    /// `Memory`. Any other call has changed nothing.
     pub fn refuse(&mut self, call: FsCall, nth: u64, kind: IoKind) -> Result<(), Fault>
         ensures ok { OnOk result (armed_of self.new ≡ armed_of self.old ++ (call, nth, kind) ∷ []) }
         ensures err { OnErr result (armed_of self.new ≡ armed_of self.old) }
@@ -196,9 +196,9 @@ impl MemoryFileSystem {
         Ok(())
     }
 
-    /// Of the calls from now on that may change files the nth, counted from 1, and each later one
-    /// fail as `Other`. These are to create, delete, rename, delete metadata, write,
-    /// truncate, allocate, sync and make a folder.
+    /// From now on the nth call that may change files, counted from 1, and each later one fail as
+    /// `Other`. These are the calls that create, delete, rename, delete metadata, write, truncate,
+    /// allocate, sync and make a folder.
     pub fn stop_at(&mut self, nth: u64)
         ensures ok { stop_of self.new ≡ Some nth }
         ensures others { armed_of self.new ≡ armed_of self.old }

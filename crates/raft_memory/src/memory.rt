@@ -87,7 +87,7 @@ impl MemoryFileSystem {
         Ok(())
     }
 
-    /// Gives a path metadata, whether or not a file stands there.
+    /// Gives a path metadata, whether or not a file exists there.
     pub fn set_metadata(&mut self, path: &str) -> Result<(), AllocError>
         ensures ok { OnOk result (memory_metadata self.new ≡ set_at path.now true
             (memory_metadata self.old)) }
