@@ -39,7 +39,7 @@ pub fn workers_for(threads: usize, append: usize, rewrite: usize) -> Workers
     }
 }
 
-/// How many files each of these workers takes, of so many; the last one may take fewer.
+/// How many of the files each of these workers takes; the last one may take fewer.
 pub fn chunk_len(files: usize, workers: usize) -> usize
     requires { 0 < workers }
     ensures value { result ≡ files_a_chunk files workers }

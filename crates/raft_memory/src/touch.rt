@@ -1,10 +1,10 @@
-//! Memory that is asked for ahead of its use.
+//! Memory that is fetched before its use.
 
 /// How many bytes the processor fetches from memory at once.
 const LINE: usize = 64;
 
 /// Reads a byte of each line of these parts in one loop, so that the processor waits for all lines
-/// at once and not for one after the other. The sum keeps the reads, and says nothing.
+/// at once and not for one after the other. The sum keeps the reads, and has no meaning.
 pub(crate) fn touch(bytes: &[u8], parts: &[(usize, usize)]) -> u64 {
     let mut sum = 0u64;
     for part in parts {
