@@ -14,7 +14,8 @@ use std::default::MadeWith;
 pub enum RecoveryMode {
     /// The opening fails.
     AbsoluteConsistency,
-    /// The opening cuts off the bytes at the end of the last file of a queue. In any other file it fails.
+    /// The opening cuts off the bytes at the end of the last file of a queue. In any other file it
+    /// fails.
     #[serde(rename(serialize = "tolerate-corrupted-tail-records"), alias = "tolerate-corrupted-tail-records")]
     TolerateTailCorruption,
     /// The opening cuts off the bytes at the end of the file, and continues with the next file.
@@ -24,8 +25,8 @@ pub enum RecoveryMode {
 impl RecoveryMode {
     ghost use Rattle.raft_config.specs.Recovery.{tolerates_corruption};
 
-    /// Whether an opening cuts off the invalid bytes at the end of a file. `is_last` says whether the file is the last
-    /// of its queue.
+    /// Whether an opening cuts off the invalid bytes at the end of a file. `is_last` says whether
+    /// the file is the last of its queue.
     pub fn tolerates_corruption(self, is_last: bool) -> bool
         ensures value { result ≡ tolerates_corruption self is_last }
     {
@@ -47,9 +48,9 @@ const MAX_SPARE_FILES: u64 = u32::MAX as u64;
 
 /// The settings of an engine. `specs/Config.antt` lists the defaults.
 ///
-/// With `serde` a program can make them a table of its own settings: keys are in kebab case, a key that is missing has
-/// its default, and other keys are passed over. The contracts of `serde` do not say which settings are read. Those of
-/// `raft_settings` do.
+/// With `serde` a program can make them a table of its own settings: keys are in kebab case, a key
+/// that is missing has its default, and other keys are passed over. The contracts of `serde` do not
+/// say which settings are read. Those of `raft_settings` do.
 #[derive(Debug, PartialEq, Serialize, Deserialize)]
 #[serde(rename_all = "kebab-case", default)]
 pub struct Config {
@@ -68,11 +69,13 @@ pub struct Config {
     pub format_version: Version,
     /// The size at which a log file is full, and a new one is made.
     pub target_file_size: ReadableSize,
-    /// If the Append queue is larger than this, a purge rewrites what is still needed and drops files.
+    /// If the Append queue is larger than this, a purge rewrites what is still needed and drops
+    /// files.
     pub purge_threshold: ReadableSize,
     /// The same size for the Rewrite queue. Without it `rewrite_threshold` gives the size.
     pub purge_rewrite_threshold: Option<ReadableSize>,
-    /// A purge rewrites the Rewrite queue only if this part of its entries, in thousandths, is garbage.
+    /// A purge rewrites the Rewrite queue only if this part of its entries, in thousandths, is
+    /// garbage.
     pub purge_rewrite_garbage_ratio: u64,
     /// Has no effect.
     pub memory_limit: Option<ReadableSize>,
@@ -80,7 +83,8 @@ pub struct Config {
     pub enable_log_recycle: bool,
     /// Whether an opening makes files for this purpose in advance, filled with zeros.
     pub prefill_for_recycle: bool,
-    /// The greatest total size of the files made in advance. Without it the size is `purge_threshold`.
+    /// The greatest total size of the files made in advance. Without it the size is
+    /// `purge_threshold`.
     pub prefill_limit: Option<ReadableSize>,
 }
 
@@ -139,8 +143,9 @@ impl Config {
         })
     }
 
-    /// Fails with `InvalidArgument` if the settings contradict one another, and then changes nothing. Otherwise sets each
-    /// missing limit, and raises the read block size to at least 512 bytes and the number of threads to at least 1.
+    /// Fails with `InvalidArgument` if the settings contradict one another, and then changes
+    /// nothing. Otherwise sets each missing limit, and raises the read block size to at least 512
+    /// bytes and the number of threads to at least 1.
     pub fn sanitize(&mut self) -> Result<(), Fault>
         ensures ok { OnOk result ((contradiction self.old ≡ None)
             × (self.new ≡ sanitized self.old)) }
@@ -191,8 +196,8 @@ impl Config {
         }
     }
 
-    /// The size of the Rewrite queue above which it is purged. If none is set, it is a tenth of `purge_threshold`, and at
-    /// least `target_file_size`.
+    /// The size of the Rewrite queue above which it is purged. If none is set, it is a tenth of
+    /// `purge_threshold`, and at least `target_file_size`.
     pub fn rewrite_threshold(&self) -> ReadableSize
         ensures value { result ≡ rewrite_threshold self.now }
     {
@@ -211,8 +216,8 @@ impl Config {
         Some(self.prefill_limit.unwrap_or(self.purge_threshold))
     }
 
-    /// The greatest number of files that are kept for use as new files: 3/2 of the number of files that have
-    /// `purge_threshold` bytes. It is 0 without recycling.
+    /// The greatest number of files that are kept for use as new files: 3/2 of the number of files
+    /// that have `purge_threshold` bytes. It is 0 without recycling.
     pub fn recycle_capacity(&self) -> usize
         ensures value { result ≡ recycle_capacity self.now }
     {
