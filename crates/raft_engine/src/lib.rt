@@ -27,6 +27,12 @@ pub mod debug {
     pub use raft_dump::{
         LogItemReader, build_file_reader, build_file_writer, dump_with_file_system,
     };
+    pub use raft_records::{KeyValue, LogItem, LogItemContent};
+}
+
+/// A program of lines: each line is a call, and each reply a line.
+pub mod lines {
+    pub use raft_lines::{Ended, serve};
 }
 
 /// What an opening would lose of the log files, found before it.
@@ -62,6 +68,7 @@ pub use raft_log_engine::{
     NoListeners, PurgeHook, Refused,
 };
 pub use raft_records::{
-    Command, Factory, Fault, FileId, FileSeq, Fresh, IoKind, LogBatch, LogQueue, Message,
-    MessageExt, ReadableSize, Version,
+    Command, EntryIndex, EntryPlace, Factory, Fault, FileBlockHandle, FileId, FileSeq, Fresh,
+    IoKind, KeyValue, LogBatch, LogItem, LogItemContent, LogQueue, Message, MessageExt,
+    ReadableSize, Version,
 };
