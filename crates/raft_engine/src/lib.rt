@@ -5,7 +5,7 @@
 /// Settings, and settings from text and as text.
 pub mod config {
     pub use raft_config::{Config, RecoveryMode};
-    pub use raft_settings::{read, with_text, write};
+    pub use raft_settings::{read, with_table, with_text, write};
 }
 
 /// Files: the contract of storage, files in memory that fail and crash, and a folder.
