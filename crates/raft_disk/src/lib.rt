@@ -9,6 +9,7 @@ mod mirror;
 mod names;
 mod opening;
 mod places;
+mod root;
 mod told;
 mod view;
 

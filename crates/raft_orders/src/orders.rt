@@ -144,6 +144,10 @@ impl Disk for Orders {
         self.check_file(path)
     }
 
+    fn check_rename(&self, _from: &str, _to: &str) -> Result<(), FsFault> {
+        Ok(())
+    }
+
     fn create(&mut self, path: &str) -> Result<(), FsFault> {
         let path = path.as_bytes();
         let order = Call::Create(NotedBytes::of(path));
