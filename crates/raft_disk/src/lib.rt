@@ -1,4 +1,4 @@
-//! Files in a folder of the operating system, with an image of them in memory that answers.
+//! Files in a folder of the operating system, with an image of them in memory for reads.
 #![tactic(auto)]
 
 mod disk;

@@ -18,13 +18,14 @@ use std::io::{self, ErrorKind, Read, Seek, SeekFrom};
 pub struct FolderView {
     rt: HostRuntime,
     root: Root,
-    /// The lock's file, whose lock is shared with others that look; none where it is missing.
+    /// The lock's file, whose lock is shared with other looks; none if it is missing.
     lock: Option<File>,
     in_use: bool,
 }
 
 impl FolderView {
-    /// A look at a folder. It fails where there is none, and where a fork into it hasn't ended.
+    /// A look at a folder. It fails if the folder does not exist, and if a fork into it has not
+    /// ended.
     pub fn open(rt: HostRuntime, path: &str) -> Result<FolderView, OpenFault> {
         let alloc = rt.alloc();
         check_place(&rt, path)?;
@@ -51,13 +52,13 @@ impl FolderView {
         })
     }
 
-    /// Whether a writer has the folder open, so that what is read may change meanwhile.
+    /// Whether a writer has the folder open, so that the files may change meanwhile.
     pub fn is_in_use(&self) -> bool {
         self.in_use
     }
 
-    /// The names of the files in a folder, by its path from here, in the order of their bytes, but for the lock's and
-    /// those that are no UTF-8. Links count as what they lead to.
+    /// The names of the files in a folder, by its path from here, in the order of their bytes,
+    /// except the lock's and those that are not UTF-8. Links count as their targets.
     pub fn names(&self, folder: &str) -> Result<Vec<String>, OpenFault> {
         let place = self.place(folder)?;
         let entries = match fs::read_dir(&self.rt, place.as_str()) {
@@ -109,7 +110,7 @@ impl FolderView {
         }
     }
 
-    /// So many bytes of the file at a path from here, from a place on, fewer where it ends.
+    /// So many bytes of the file at a path from here, from a place on; fewer if it ends before.
     pub fn read_part(&self, path: &str, at: u64, len: usize) -> Result<Vec<u8>, OpenFault> {
         let place = self.place(path)?;
         match read_part(&self.rt, place.as_str(), at, len) {
