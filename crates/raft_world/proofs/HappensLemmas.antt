@@ -1,5 +1,5 @@
 -- What a log keeps, whatever happens.
-use Rattle.std.proofs.Common.{◌≡◌, ◌⊎◌, ◌∙◌, ◌++◌, ◌∷◌, ℕ, zero, suc, true, false, Bool, List, [], append-nil, inl, inr, refl, sym, ap, subst}
+use Rattle.std.proofs.Common.{◌≡◌, ◌⊎◌, ◌∙◌, ◌++◌, ◌∷◌, ℕ, zero, suc, true, false, Bool, List, [], append-nil, append_assoc, inl, inr, refl, sym, ap, subst}
 use Rattle.std.proofs.lemmas.Bool.{cases_Bool}
 use Rattle.std.specs.Prelude.{Option, Some, None, Result, Ok, Err, take}
 use Rattle.std.specs.List.{AllByRecursion}
@@ -37,9 +37,9 @@ use Rattle.raft_world.specs.Call.{Closes, Ends, GivesUp, HasEffect, Reopens}
 use Rattle.raft_world.proofs.Below.{CrashLaws, LeftIsRead}
 use Rattle.raft_world.proofs.RefusalLemmas.{no_log_clean, refused_outside}
 use Rattle.raft_config.proofs.ConfigLemmas.{no_contradiction}
-use Rattle.raft_world.specs.Ledger.{Effect, MayRecover, Ledger, MayFind, after_accepting, after_effect, all_durable, interrupted, durable_contents, accepted_contents, after_crash, starts_with}
+use Rattle.raft_world.specs.Ledger.{Effect, MayRecover, Ledger, MayFind, after_effect, all_durable, interrupted, durable_contents, accepted_contents, after_crash, starts_with}
 use Rattle.raft_world.specs.Happens.{FindsOnly, Happens, HasCrashed, HasOpened, Holds, IsMoment, Node, Running, Down, Begins, BeginsWith, Opened, OpeningFailed, Called, Failed, Rested, Closed, Reopened, GivenUp, Killed, Crashed, CrashedInCall, CrashedInClose, CrashedInOpening, KilledInOpening, files_of, AreClean}
-use Rattle.raft_world.proofs.LedgerLemmas.{after-append, all_durable_accepted, may_find_accepted, may_find_left}
+use Rattle.raft_world.proofs.LedgerLemmas.{after-append, after_accepting, all_durable_accepted, may_find_accepted, may_find_left}
 
 -- Moments.
 
@@ -185,7 +185,8 @@ module _ {F H R W : Type 0} (g : Ghosts F H R W) (folders : Folders) where
             durable_is = ap (λ m. after_batches m (base_of later)) call.found ∙ ap (after_batches (found_of e)) base
                 ∙ after-append (found_of e) (base_of e ++ unsynced_of e) batches
                 ∙ ap (λ m. after_batches m batches) (up_holds e l keeps alive ∙ sym (after-append l.start l.durable l.unsynced))
-                ∙ sym (after-append l.start (l.durable ++ l.unsynced) batches);
+                ∙ sym (after-append l.start (l.durable ++ l.unsynced) batches)
+                ∙ ap (after_batches l.start) (append_assoc l.durable l.unsynced batches);
             stands = λ _. none;
             choice = [];
             unsynced_is = none;

@@ -1,6 +1,6 @@
--- Logs.
+-- Ledgers.
 use Rattle.std.proofs.Common.{◌≡◌, ◌∙◌, ◌≤◌, ◌++◌, Bool, List, [], append-nil, refl, sym, ap, arith, length, subst}
-use Rattle.std.specs.Prelude.{take}
+use Rattle.std.specs.Prelude.{take, if◌then◌else◌}
 use Rattle.std.proofs.Math.Logic.{∥∥₁_map}
 use Rattle.std.proofs.lemmas.Grind.{fold-append}
 use Rattle.std.proofs.lemmas.List.{take_all}
@@ -8,7 +8,7 @@ use Rattle.raft_records.specs.Contents.{Contents, after_batch, after_batches}
 use Rattle.raft_records.specs.Item.{Batch}
 use Rattle.raft_crash_laws.specs.Crash.{IsAllowedFrom}
 use Rattle.raft_log_engine.specs.Group.{chosen_of}
-use Rattle.raft_world.specs.Ledger.{Ledger, MayFind, all_durable, durable_contents, accepted_contents, after_crash}
+use Rattle.raft_world.specs.Ledger.{Ledger, MayFind, accepted_contents, accepting, after_crash, all_durable, durable_contents}
 
 pub after-append : (m : Contents) (xs ys : List Batch) → after_batches m (xs ++ ys) ≡ after_batches (after_batches m xs) ys
 after-append m xs ys = fold-append after_batch m xs ys
@@ -27,3 +27,7 @@ may_find_accepted l =
 
 pub all_durable_accepted : (l : Ledger) → accepted_contents (all_durable l) ≡ accepted_contents l
 all_durable_accepted l = after-append l.start l.durable l.unsynced
+
+-- the ledger after a call that accepts these batches
+abbrev pub after_accepting : List Batch → Bool → Ledger → Ledger
+after_accepting batches syncs l = if syncs then all_durable (accepting batches l) else accepting batches l

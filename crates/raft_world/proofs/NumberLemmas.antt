@@ -14,10 +14,10 @@ use Rattle.raft_log_engine.specs.Group.{chosen_of}
 use Rattle.raft_log_engine.specs.declared.engine.Engine.{Engine}
 use Rattle.raft_world.specs.Call.{HasEffect, MayFollow}
 use Rattle.raft_world.proofs.Below.{CrashLaws, OnceLaw}
-use Rattle.raft_world.specs.Ledger.{Effect, Ledger, after_accepting, all_durable, interrupted, accepted_contents, after_crash, starts_with}
+use Rattle.raft_world.specs.Ledger.{Effect, Ledger, all_durable, interrupted, accepted_contents, after_crash, starts_with}
 use Rattle.raft_world.specs.Once.{ActsOnce}
-use Rattle.raft_world.specs.Happens.{Happens, Node, Running, Down, Begins, BeginsWith, Opened, OpeningFailed, Called, Failed, Rested, Closed, Reopened, GivenUp, Killed, Crashed, CrashedInCall, CrashedInClose, CrashedInOpening, KilledInOpening}
-use Rattle.raft_world.proofs.LedgerLemmas.{after-append}
+use Rattle.raft_world.specs.Happens.{Happens, Node, Running, Down, Begins, BeginsWith, Opened, OpeningFailed, Called, Failed, Rested, Closed, Reopened, GivenUp, Killed, Crashed, CrashedInCall, CrashedInClose, CrashedInOpening, KilledInOpening, ledger_of}
+use Rattle.raft_world.proofs.LedgerLemmas.{after-append, after_accepting}
 use Rattle.raft_world.proofs.HappensLemmas.{is_safe}
 
 -- Acts.
@@ -81,14 +81,14 @@ numbered_kept : (l : Ledger) → IsNumbered l → IsNumbered (all_durable l)
 numbered_kept l is = record { all = subst (MayFollow l.start) (sym (append-nil (l.durable ++ l.unsynced))) is.all; torn = untorn (all_durable l) refl }
 
 numbered_after : (l : Ledger) (batches : List Batch) (syncs : Bool) → IsNumbered l → MayFollow (accepted_contents l) batches → IsNumbered (after_accepting batches syncs l)
-numbered_after l batches true is next = record {
-  all = subst (MayFollow l.start) (sym (append-nil ((l.durable ++ l.unsynced) ++ batches))) (follow_both l.start (l.durable ++ l.unsynced) batches is.all (subst (λ m. MayFollow m batches) (sym (whole l)) next));
-  torn = untorn (after_accepting batches true l) refl;
-}
-numbered_after l batches false is next = record {
-  all = subst (MayFollow l.start) (append_assoc l.durable l.unsynced batches) (follow_both l.start (l.durable ++ l.unsynced) batches is.all (subst (λ m. MayFollow m batches) (sym (whole l)) next));
-  torn = untorn (after_accepting batches false l) refl;
-}
+numbered_after l batches syncs is next = by_syncs syncs
+  where
+    all : MayFollow l.start (l.durable ++ (l.unsynced ++ batches))
+    all = subst (MayFollow l.start) (append_assoc l.durable l.unsynced batches) (follow_both l.start (l.durable ++ l.unsynced) batches is.all (subst (λ m. MayFollow m batches) (sym (whole l)) next))
+
+    by_syncs : (syncs : Bool) → IsNumbered (after_accepting batches syncs l)
+    by_syncs true = record { all = subst (MayFollow l.start) (sym (append-nil (l.durable ++ (l.unsynced ++ batches)))) all; torn = untorn (after_accepting batches true l) refl }
+    by_syncs false = record { all = all; torn = untorn (after_accepting batches false l) refl }
 
 numbered_left : (l : Ledger) (choice : List Bool) (count : ℕ) → IsNumbered l → IsNumbered (after_crash l choice count)
 numbered_left l choice count is =
@@ -118,7 +118,7 @@ module _ {F H R W : Type 0} (g : Ghosts F H R W) (folders : Folders) (laws : Cra
 
   numbered : (w : Node g folders) (l : Ledger) → Happens g folders true w l → ∥ IsNumbered l ∥₁
   numbered _ _ (Begins files none clear) = ∣ (record { all = none_follow no_contents; torn = untorn (starts_with no_contents) refl }) ∣₁
-  numbered _ _ (BeginsWith e same alive acts) = ∣ (record { all = acts refl; torn = untorn (record { start = durable_of e; durable = []; unsynced = unsynced_of e; in_flight = [] }) refl }) ∣₁
+  numbered _ _ (BeginsWith e same alive acts) = ∣ (record { all = acts refl; torn = untorn (ledger_of e) refl }) ∣₁
   numbered _ _ (Opened files l later e before opens left) = ∥∥₁_elim (numbered (Down files) l before) ∥∥₁_prop (λ is. ∥∥₁_map left (λ (choice, count, later_is, found). subst IsNumbered (sym later_is) (numbered_left l choice count is)))
   numbered _ _ (OpeningFailed files l r before opens clean) = numbered (Down files) l before
   numbered _ _ (Called e later l d before call stands) = ∥∥₁_map (numbered (Running e) l before) (λ is. numbered_after l d.accepts d.syncs is (subst (λ m. MayFollow m d.accepts) (holds e l before (stood e later d call stands)) (call.numbers (stood e later d call stands))))

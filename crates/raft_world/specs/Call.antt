@@ -1,5 +1,5 @@
--- What a call makes of an engine. The law only assumes this, and each call ensures it: so it need not
--- be read for the law.
+-- What a call makes of an engine. The law only assumes this, and each call ensures it: so a reader
+-- of the law may skip it.
 use Rattle.std.specs.Prelude.{◌≡◌, ◌⊎◌, true, false, Bool, List, []}
 use Rattle.raft_records.specs.Contents.{Contents}
 use Rattle.raft_records.specs.Item.{Batch}
@@ -60,8 +60,8 @@ module _ {F H R W : Type 0} {g : Ghosts F H R W} where
 
   -- an engine was given up, or a close or a reopening failed, and these files are left
   pub record GivesUp (old : Engine F H R W g) (files : F) : Type 0 where
-    pub keeps : RecoversContents (folders_of old) (durable_of old) (unsynced_of old) (g.directory files)
-        ⊎ ((has_failed old ≡ false)
+    pub keeps : RecoversContents (folders_of old) (durable_of old) (unsynced_of old)
+        (g.directory files) ⊎ ((has_failed old ≡ false)
         × RecoversContents (folders_of old) (contents_of old) [] (g.directory files))
 
   -- a close or a reopening, whatever it returns, leaves these files

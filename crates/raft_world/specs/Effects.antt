@@ -52,21 +52,21 @@ no_effect = record { writes = []; accepts = []; syncs = false }
 module _ {F H R W : Type 0} (g : Ghosts F H R W) where
   -- `write`
   abbrev pub WriteHasEffect : Type 0
-  WriteHasEffect = (batch rest : Batch) (sync : Bool) (old new : Engine F H R W g) (result : Result ℕ Fault)
-      → IsCallersWrite batch rest sync old new result
+  WriteHasEffect = (batch rest : Batch) (sync : Bool) (old new : Engine F H R W g)
+      (result : Result ℕ Fault) → IsCallersWrite batch rest sync old new result
       → HasEffect (write_effect (plain_part batch) sync result) old new
 
   -- `write_once`, with numbers of eight bytes
   abbrev pub WriteOnceHasEffect : Type 0
-  WriteOnceHasEffect = (batch rest : Batch) (pairs : List Pair) (sync : Bool) (old new : Engine F H R W g)
-      (result : Result ℕ Fault) → are_numbers pairs ≡ true
+  WriteOnceHasEffect = (batch rest : Batch) (pairs : List Pair) (sync : Bool)
+      (old new : Engine F H R W g) (result : Result ℕ Fault) → are_numbers pairs ≡ true
       → IsWriteOnce batch rest pairs sync old new result
       → HasEffect (write_effect (acting_batch (contents_of old) batch pairs) sync result) old new
 
   -- `write_group`
   abbrev pub WriteGroupHasEffect : Type 0
-  WriteGroupHasEffect = (batches rest : List Batch) (count flags : ℕ) (sync : Bool) (old new : Engine F H R W g)
-      (result : Result (Vec (Result ℕ Fault) Global) Fault)
+  WriteGroupHasEffect = (batches rest : List Batch) (count flags : ℕ) (sync : Bool)
+      (old new : Engine F H R W g) (result : Result (Vec (Result ℕ Fault) Global) Fault)
       → IsGroupWrite batches rest count flags sync old new result
       → HasEffect (group_effect batches sync result) old new
 
@@ -74,8 +74,8 @@ module _ {F H R W : Type 0} (g : Ghosts F H R W) where
   abbrev pub CompactionHasEffect : Type 0
   CompactionHasEffect = (group index : ℕ) (old new : Engine F H R W g) (result : Result ℕ Fault)
       → IsCompaction group index old new result
-      → HasEffect (write_effect (compact_batch group index ((contents_of old).entries group)) false result)
-      old new
+      → let batch = compact_batch group index ((contents_of old).entries group) in
+      HasEffect (write_effect batch false result) old new
 
   -- `sync`
   abbrev pub SyncHasEffect : Type 0
@@ -94,7 +94,8 @@ module _ {F H R W : Type 0} (g : Ghosts F H R W) where
 
   -- a refusal that a test arms, by its clause `unchanged`
   abbrev pub ArmingHasNoEffect : Type 0
-  ArmingHasNoEffect = (old new : Engine F H R W g) → SameButArmed old new → HasEffect no_effect old new
+  ArmingHasNoEffect = (old new : Engine F H R W g) → SameButArmed old new
+      → HasEffect no_effect old new
 
   -- `close`, by its clauses `ok`, `err` and `failed`
   abbrev pub CloseEnds : Type 0

@@ -61,30 +61,43 @@ module _ {F H R W : Type 0} (g : Ghosts F H R W) (folders : Folders) where
     pub restarted : IsRestarted n left (g.directory files)
     pub clean : IsClean folders n left
 
+  -- a moment of an opening
+  abbrev pub IsMomentOfOpening : F → Result (Engine F H R W g) (Refused F) → Directory → Type 0
+  IsMomentOfOpening files answer n = let after = opened_files answer in
+      IsMoment (g.moments files) (g.moments after) (g.directory after) n
+
   -- files without a crash, with clean damage
   abbrev pub AreClean : F → Type 0
   AreClean files = IsClean folders (g.directory files) (as_it_is (g.directory files))
+
+-- the ledger of an engine of whose past nothing is known
+abbrev pub ledger_of : {F H R W : Type 0} {g : Ghosts F H R W} → Engine F H R W g → Ledger
+ledger_of e =
+    record { start = durable_of e; durable = []; unsynced = unsynced_of e; in_flight = [] }
 
 module _ {F H R W : Type 0} (g : Ghosts F H R W) (folders : Folders) (numbered : Bool) where
   -- everything that may happen to a log. `numbered` is asked for by the law of numbers alone
   pub data Happens : Node g folders → Ledger → Type 0 where
     -- the folders have no log file
-    Begins : (files : F) → HasNoLog folders (g.directory files) → AreClear folders (g.directory files)
-        → Happens (Down files) (starts_with no_contents)
+    Begins : (files : F) → HasNoLog folders (g.directory files)
+        → AreClear folders (g.directory files) → Happens (Down files) (starts_with no_contents)
     -- or there is any engine that hasn't failed; for the law of numbers, its unsynced batches have
     -- numbers as calls write them (after an opening there are none)
     BeginsWith : (e : Engine F H R W g) → folders_of e ≡ folders → has_failed e ≡ false
         → (numbered ≡ true → MayFollow (durable_of e) (unsynced_of e))
-        → Happens (Running e) (record { start = durable_of e; durable = []; unsynced = unsynced_of e; in_flight = [] })
+        → Happens (Running e) (ledger_of e)
     -- an opening returns an engine
     Opened : (files : F) (l later : Ledger) (e : Engine F H R W g) → Happens (Down files) l
-        → HasOpened g folders files (Ok e) → MayRecover l later (contents_of e) → Happens (Running e) later
+        → HasOpened g folders files (Ok e) → MayRecover l later (contents_of e)
+        → Happens (Running e) later
     -- an opening fails
     OpeningFailed : (files : F) (l : Ledger) (r : Refused F) → Happens (Down files) l
-        → HasOpened g folders files (Err r) → AreClean g folders r.file_system → Happens (Down r.file_system) l
+        → HasOpened g folders files (Err r) → AreClean g folders r.file_system
+        → Happens (Down r.file_system) l
     -- a call returns, and the engine hasn't failed
     Called : (e later : Engine F H R W g) (l : Ledger) (effect : Effect) → Happens (Running e) l
-        → HasEffect effect e later → has_failed later ≡ false → Happens (Running later) (after_effect effect l)
+        → HasEffect effect e later → has_failed later ≡ false
+        → Happens (Running later) (after_effect effect l)
     -- the engine fails in a call
     Failed : (e later : Engine F H R W g) (l : Ledger) (effect : Effect) → Happens (Running e) l
         → HasEffect effect e later → has_failed e ≡ false → has_failed later ≡ true
@@ -93,14 +106,14 @@ module _ {F H R W : Type 0} (g : Ghosts F H R W) (folders : Folders) (numbered :
     Rested : (e later : Engine F H R W g) (l : Ledger) (effect : Effect) → Happens (Running e) l
         → HasEffect effect e later → has_failed e ≡ true → Happens (Running later) l
     -- a close returns `Ok`
-    Closed : (e : Engine F H R W g) (l : Ledger) (files : F) → Happens (Running e) l → Closes e files
-        → Happens (Down files) (all_durable l)
+    Closed : (e : Engine F H R W g) (l : Ledger) (files : F) → Happens (Running e) l
+        → Closes e files → Happens (Down files) (all_durable l)
     -- a reopening returns `Ok`
-    Reopened : (e later : Engine F H R W g) (l : Ledger) → Happens (Running e) l → Reopens e later
-        → Happens (Running later) (all_durable l)
+    Reopened : (e later : Engine F H R W g) (l : Ledger) → Happens (Running e) l
+        → Reopens e later → Happens (Running later) (all_durable l)
     -- the engine is given up, or a close or a reopening fails
-    GivenUp : (e : Engine F H R W g) (l : Ledger) (files : F) → Happens (Running e) l → GivesUp e files
-        → AreClean g folders files → Happens (Down files) l
+    GivenUp : (e : Engine F H R W g) (l : Ledger) (files : F) → Happens (Running e) l
+        → GivesUp e files → AreClean g folders files → Happens (Down files) l
     -- the process is killed between two calls, and the machine runs on
     Killed : (e : Engine F H R W g) (l : Ledger) (files : F) → Happens (Running e) l
         → g.directory files ≡ directory_of e → AreClean g folders files → Happens (Down files) l
@@ -108,8 +121,8 @@ module _ {F H R W : Type 0} (g : Ghosts F H R W) (folders : Folders) (numbered :
     Crashed : (node : Node g folders) (l : Ledger) (files : F) → Happens node l
         → HasCrashed g folders (files_of g folders node) files → Happens (Down files) l
     -- the machine crashes inside a call
-    CrashedInCall : (e later : Engine F H R W g) (l : Ledger) (effect : Effect) (n : Directory) (files : F)
-        → Happens (Running e) l → HasEffect effect e later → has_failed e ≡ false
+    CrashedInCall : (e later : Engine F H R W g) (l : Ledger) (effect : Effect) (n : Directory)
+        (files : F) → Happens (Running e) l → HasEffect effect e later → has_failed e ≡ false
         → IsMoment (moments_of e) (moments_of later) (directory_of later) n
         → HasCrashed g folders n files → Happens (Down files) (interrupted effect l)
     -- the machine crashes inside a close or a reopening
@@ -120,17 +133,18 @@ module _ {F H R W : Type 0} (g : Ghosts F H R W) (folders : Folders) (numbered :
     -- the machine crashes inside an opening
     CrashedInOpening : (files : F) (l : Ledger) (answer : Result (Engine F H R W g) (Refused F))
         (n : Directory) (later : F) → Happens (Down files) l → HasOpened g folders files answer
-        → IsMoment (g.moments files) (g.moments (opened_files answer)) (g.directory (opened_files answer)) n
-        → HasCrashed g folders n later → Happens (Down later) l
+        → IsMomentOfOpening g folders files answer n → HasCrashed g folders n later
+        → Happens (Down later) l
     -- the process is killed inside an opening, and the machine runs on
-    KilledInOpening : (files : F) (l : Ledger) (answer : Result (Engine F H R W g) (Refused F)) (later : F)
-        → Happens (Down files) l → HasOpened g folders files answer
-        → IsMoment (g.moments files) (g.moments (opened_files answer)) (g.directory (opened_files answer)) (g.directory later)
+    KilledInOpening : (files : F) (l : Ledger) (answer : Result (Engine F H R W g) (Refused F))
+        (later : F) → Happens (Down files) l → HasOpened g folders files answer
+        → IsMomentOfOpening g folders files answer (g.directory later)
         → AreClean g folders later → Happens (Down later) l
 
 module _ {F H R W : Type 0} (g : Ghosts F H R W) (folders : Folders) where
-  -- an opening of files with this ledger returns an engine in these folders that hasn't failed, is all
-  -- synced, and has contents that may be found; or storage fails and counts that, or memory is out
+  -- an opening of files with this ledger returns an engine in these folders that hasn't failed, is
+  -- all synced and holds contents that may be found; or it fails, by storage, which counted the
+  -- failure, or out of memory
   pub record FindsOnly (l : Ledger) (files : F) (answer : Result (Engine F H R W g) (Refused F))
       : Type 0 where
     pub ok : IfOk answer (λ e. (folders_of e ≡ folders) × (has_failed e ≡ false) × IsAllSynced e
@@ -141,10 +155,10 @@ module _ {F H R W : Type 0} (g : Ghosts F H R W) (folders : Folders) where
   -- what holds of a node with this ledger
   abbrev pub Holds : Node g folders → Ledger → Type 0
   Holds (Running e) l = has_failed e ≡ false → contents_of e ≡ accepted_contents l
-  Holds (Down files) l = (answer : Result (Engine F H R W g) (Refused F)) → HasOpened g folders files answer
-      → FindsOnly l files answer
+  Holds (Down files) l = (answer : Result (Engine F H R W g) (Refused F))
+      → HasOpened g folders files answer → FindsOnly l files answer
 
 -- the law
 abbrev pub TheLogIsSafe : {F H R W : Type 0} → Ghosts F H R W → Type 0
-TheLogIsSafe g = (folders : Folders) (numbered : Bool)
-    (node : Node g folders) (l : Ledger) → Happens g folders numbered node l → Holds g folders node l
+TheLogIsSafe g = (folders : Folders) (numbered : Bool) (node : Node g folders) (l : Ledger)
+    → Happens g folders numbered node l → Holds g folders node l

@@ -1,5 +1,5 @@
 -- What a log holds for its user, and what a call or a crash makes of that.
-use Rattle.std.specs.Prelude.{◌≡◌, ℕ, Bool, true, false, List, [], ◌++◌, take}
+use Rattle.std.specs.Prelude.{◌≡◌, ℕ, Bool, List, [], ◌++◌, take, if◌then◌else◌}
 use Rattle.raft_records.specs.Contents.{Contents, after_batches}
 use Rattle.raft_records.specs.Item.{Batch}
 use Rattle.raft_log_engine.specs.Group.{chosen_of}
@@ -27,14 +27,14 @@ accepted_contents l = after_batches (durable_contents l) l.unsynced
 abbrev pub starts_with : Contents → Ledger
 starts_with m = record { start = m; durable = []; unsynced = []; in_flight = [] }
 
--- all accepted batches become durable
+-- the ledger with these accepted batches more
+abbrev pub accepting : List Batch → Ledger → Ledger
+accepting batches l = record l { unsynced = l.unsynced ++ batches; in_flight = [] }
+
+-- the ledger after a sync
 abbrev pub all_durable : Ledger → Ledger
-all_durable l = record {
-  start = l.start;
-  durable = l.durable ++ l.unsynced;
-  unsynced = [];
-  in_flight = [];
-}
+all_durable l =
+    record { start = l.start; durable = l.durable ++ l.unsynced; unsynced = []; in_flight = [] }
 
 -- what a call does to the log
 pub record Effect : Type 0 where
@@ -45,24 +45,10 @@ pub record Effect : Type 0 where
   -- it makes all accepted batches durable
   pub syncs : Bool
 
--- the ledger after a call that accepts these batches
-abbrev pub after_accepting : List Batch → Bool → Ledger → Ledger
-after_accepting batches true l = record {
-  start = l.start;
-  durable = (l.durable ++ l.unsynced) ++ batches;
-  unsynced = [];
-  in_flight = [];
-}
-after_accepting batches false l = record {
-  start = l.start;
-  durable = l.durable;
-  unsynced = l.unsynced ++ batches;
-  in_flight = [];
-}
-
 -- the ledger after a call, if the engine hasn't failed
 abbrev pub after_effect : Effect → Ledger → Ledger
-after_effect effect l = after_accepting effect.accepts effect.syncs l
+after_effect effect l =
+    if effect.syncs then all_durable (accepting effect.accepts l) else accepting effect.accepts l
 
 -- the ledger after a call that a crash cut short, or in which the engine failed
 abbrev pub interrupted : Effect → Ledger → Ledger
@@ -71,13 +57,9 @@ interrupted effect l = record l { in_flight = effect.writes }
 -- the ledger after an opening that finds so many of the batches that a crash may take, where these
 -- of the batches in flight were written
 abbrev pub after_crash : Ledger → List Bool → ℕ → Ledger
-after_crash l written count = record {
-  start = l.start;
-  durable = l.durable
-      ++ take count (l.unsynced ++ chosen_of (accepted_contents l) written l.in_flight);
-  unsynced = [];
-  in_flight = [];
-}
+after_crash l written count =
+    let found = take count (l.unsynced ++ chosen_of (accepted_contents l) written l.in_flight) in
+    record { start = l.start; durable = l.durable ++ found; unsynced = []; in_flight = [] }
 
 -- an opening may find these contents, and then the ledger is the later one
 abbrev pub MayRecover : Ledger → Ledger → Contents → Type 0

@@ -1,9 +1,9 @@
-use Rattle.std.proofs.Common.{◌≡◌, [], true, false, refl}
+use Rattle.std.proofs.Common.{◌≡◌, true, false, refl}
 use Rattle.std.specs.Prelude.{Ok}
 use Rattle.raft_log_engine.proofs.EngineLemmas.{engine_keeps}
-use Rattle.raft_log_engine.specs.Engine.{durable_of, folders_of, unsynced_of}
-use Rattle.raft_world.specs.Happens.{BeginsWith, CrashedInCall, Down}
-use Rattle.raft_world.specs.Ledger.{Ledger, interrupted}
+use Rattle.raft_log_engine.specs.Engine.{folders_of}
+use Rattle.raft_world.specs.Happens.{BeginsWith, CrashedInCall, Down, ledger_of}
+use Rattle.raft_world.specs.Ledger.{interrupted}
 use Rattle.raft_world.proofs.HappensLemmas.{is_safe}
 use Rattle.raft_world.proofs.laws.a_crash_in_a_call_leaves_a_prefix.Goals as goal
 
@@ -19,6 +19,5 @@ returns g c = λ old new later effect n files call alive moment crash opens.
       clear = c.crash_leaves_contents.ensures.clear;
       single = c.crash_leaves_contents.ensures.single;
     } in
-    let l : Ledger = record { start = durable_of old; durable = []; unsynced = unsynced_of old; in_flight = [] } in
-    (is_safe g.F.FileSystem (folders_of old) laws (λ e. engine_keeps e) false (Down files) (interrupted effect l)
-    (CrashedInCall old new l effect n files (BeginsWith old refl alive (λ clash. absurd (let no : false ≡ true = clash in cc))) call alive moment crash) (Ok later) opens).ok.3
+    (is_safe g.F.FileSystem (folders_of old) laws (λ e. engine_keeps e) false (Down files) (interrupted effect (ledger_of old))
+    (CrashedInCall old new (ledger_of old) effect n files (BeginsWith old refl alive (λ clash. absurd (let no : false ≡ true = clash in cc))) call alive moment crash) (Ok later) opens).ok.3
