@@ -35,10 +35,10 @@ use Rattle.raft_recovery_laws.specs.Recovered.{recovered}
 use Rattle.raft_world.specs.ReadFirst.{IsAfterCrash, ReadsFirst}
 use Rattle.raft_world.specs.Call.{Closes, Ends, GivesUp, HasEffect, Reopens}
 use Rattle.raft_world.proofs.Below.{CrashLaws, LeftIsRead}
-use Rattle.raft_world.proofs.RefusalLemmas.{no_log_clean, refused_outside}
+use Rattle.raft_world.proofs.RefusalLemmas.{no_log_detectable, refused_outside}
 use Rattle.raft_config.proofs.ConfigLemmas.{no_contradiction}
 use Rattle.raft_world.specs.Ledger.{Effect, MayRecover, Ledger, MayFind, after_effect, all_durable, interrupted, durable_contents, accepted_contents, after_crash, starts_with}
-use Rattle.raft_world.specs.Happens.{FindsOnly, Happens, HasCrashed, HasOpened, Holds, IsMoment, Node, Running, Down, Begins, BeginsWith, Opened, OpeningFailed, Called, Failed, Rested, Closed, Reopened, GivenUp, Killed, Crashed, CrashedInCall, CrashedInClose, CrashedInOpening, KilledInOpening, files_of, AreClean}
+use Rattle.raft_world.specs.Happens.{FindsOnly, Happens, HasCrashed, HasOpened, Holds, IsMoment, Node, Running, Down, Begins, BeginsWith, Opened, OpeningFailed, Called, Failed, Rested, Closed, Reopened, GivenUp, Killed, Crashed, CrashedInCall, CrashedInClose, CrashedInOpening, KilledInOpening, files_of, AreDetectable}
 use Rattle.raft_world.proofs.LedgerLemmas.{after-append, after_accepting, all_durable_accepted, may_find_accepted, may_find_left}
 
 -- Moments.
@@ -111,8 +111,8 @@ module _ {F H R W : Type 0} (g : Ghosts F H R W) (folders : Folders) where
     crashed m batches l n files leaves allowed crash =
         let here = leaves crash.left crash.leaves in
         let c = contents_after_crash folders n crash.left in
-        let sound = here.sound crash.clean in
-        let may_be : MayFind l c = allowed c (here.found crash.clean) in
+        let sound = here.sound crash.detectable in
+        let may_be : MayFind l c = allowed c (here.found crash.detectable) in
         let found : contents_at folders (g.directory files) ≡ c = laws.found folders n (g.directory files) crash.left crash.restarted in
         record {
           m = c;
@@ -124,7 +124,7 @@ module _ {F H R W : Type 0} (g : Ghosts F H R W) (folders : Folders) where
         }
 
     -- files as they are
-    standing : (m : Contents) (batches : List Batch) (l : Ledger) (files : F) → RecoversContents folders m batches (g.directory files) → ((found : Contents) → IsAllowedFrom 0 m batches found → MayFind l found) → AreClean g folders files → KeepsDown files l
+    standing : (m : Contents) (batches : List Batch) (l : Ledger) (files : F) → RecoversContents folders m batches (g.directory files) → ((found : Contents) → IsAllowedFrom 0 m batches found → MayFind l found) → AreDetectable g folders files → KeepsDown files l
     standing m batches l files keeps allowed clean =
         let are = laws.as_they_are folders m batches (g.directory files) keeps clean in
         record {
@@ -289,7 +289,7 @@ module _ {F H R W : Type 0} (g : Ghosts F H R W) (folders : Folders) where
       unsynced_is = reopens.synced.1;
     }
 
-    given_up : (e : Engine F H R W g) (l : Ledger) (files : F) → KeepsUp e l → GivesUp e files → AreClean g folders files → KeepsDown files l
+    given_up : (e : Engine F H R W g) (l : Ledger) (files : F) → KeepsUp e l → GivesUp e files → AreDetectable g folders files → KeepsDown files l
     given_up e l files keeps gives clean = elim gives.keeps [
       | inl part ↦ standing (durable_contents l) (l.unsynced ++ chosen_of (accepted_contents l) keeps.choice l.in_flight) l files
           (subst (λ f. RecoversContents f (durable_contents l) (l.unsynced ++ chosen_of (accepted_contents l) keeps.choice l.in_flight) (g.directory files)) keeps.folders_are
@@ -301,7 +301,7 @@ module _ {F H R W : Type 0} (g : Ghosts F H R W) (folders : Folders) where
           (λ found only. subst (MayFind l) (sym (alone (contents_of e) found only ∙ up_holds e l keeps all.0)) (may_find_accepted l)) clean
     ]
 
-    killed : (e : Engine F H R W g) (l : Ledger) (files : F) → KeepsUp e l → g.directory files ≡ directory_of e → AreClean g folders files → KeepsDown files l
+    killed : (e : Engine F H R W g) (l : Ledger) (files : F) → KeepsUp e l → g.directory files ≡ directory_of e → AreDetectable g folders files → KeepsDown files l
     killed e l files keeps same clean =
         standing (durable_contents l) (l.unsynced ++ chosen_of (accepted_contents l) keeps.choice l.in_flight) l files
         (subst (RecoversContents folders (durable_contents l) (l.unsynced ++ chosen_of (accepted_contents l) keeps.choice l.in_flight)) (sym same) (up_keeps e l keeps))
@@ -340,7 +340,7 @@ module _ {F H R W : Type 0} (g : Ghosts F H R W) (folders : Folders) where
         weaker [] all = tt
         weaker (x ∷ l) all = (once x all.0, weaker l all.1)
 
-    refuses : (files : F) (l : Ledger) (r : Refused F) → KeepsDown files l → HasOpened g folders files (Err r) → AreClean g folders r.file_system → KeepsDown r.file_system l
+    refuses : (files : F) (l : Ledger) (r : Refused F) → KeepsDown files l → HasOpened g folders files (Err r) → AreDetectable g folders r.file_system → KeepsDown r.file_system l
     refuses files l r keeps opens clean =
         standing keeps.m keeps.batches l r.file_system (still keeps.m keeps.batches files (Err r) opens keeps.keeps).here keeps.allowed clean
 
@@ -349,7 +349,7 @@ module _ {F H R W : Type 0} (g : Ghosts F H R W) (folders : Folders) where
         crashed keeps.m keeps.batches l n later (laws.left folders keeps.m keeps.batches n
         (at_moment (RecoversContents folders keeps.m keeps.batches) (g.moments files) (g.moments (opened_files answer)) (g.directory (opened_files answer)) n (still keeps.m keeps.batches files answer opens keeps.keeps) moment)) keeps.allowed crash
 
-    killed_in_opening : (files : F) (l : Ledger) (answer : Result (Engine F H R W g) (Refused F)) (later : F) → KeepsDown files l → HasOpened g folders files answer → IsMoment (g.moments files) (g.moments (opened_files answer)) (g.directory (opened_files answer)) (g.directory later) → AreClean g folders later → KeepsDown later l
+    killed_in_opening : (files : F) (l : Ledger) (answer : Result (Engine F H R W g) (Refused F)) (later : F) → KeepsDown files l → HasOpened g folders files answer → IsMoment (g.moments files) (g.moments (opened_files answer)) (g.directory (opened_files answer)) (g.directory later) → AreDetectable g folders later → KeepsDown later l
     killed_in_opening files l answer later keeps opens moment clean =
         standing keeps.m keeps.batches l later
         (at_moment (RecoversContents folders keeps.m keeps.batches) (g.moments files) (g.moments (opened_files answer)) (g.directory (opened_files answer)) (g.directory later) (still keeps.m keeps.batches files answer opens keeps.keeps) moment) keeps.allowed clean
@@ -364,7 +364,7 @@ module _ {F H R W : Type 0} (g : Ghosts F H R W) (folders : Folders) where
     keeps_all : (numbered : Bool) (w : Node g folders) (l : Ledger) → Happens g folders numbered w l → Keeps w l
     keeps_all numbered _ _ (Begins files none clear) =
         let empty = laws.none folders (g.directory files) none clear in
-        ∣ standing no_contents [] (starts_with no_contents) files empty.1 (λ found only. subst (MayFind (starts_with no_contents)) (sym (alone no_contents found only)) (may_find_accepted (starts_with no_contents))) (no_log_clean folders (g.directory files) none) ∣₁
+        ∣ standing no_contents [] (starts_with no_contents) files empty.1 (λ found only. subst (MayFind (starts_with no_contents)) (sym (alone no_contents found only)) (may_find_accepted (starts_with no_contents))) (no_log_detectable folders (g.directory files) none) ∣₁
     keeps_all numbered _ _ (BeginsWith e same alive acts) = ∣ (record { folders_are = same; durable_is = refl; stands = λ _. refl; choice = []; unsynced_is = sym (append-nil (unsynced_of e)) }) ∣₁
     keeps_all numbered _ _ (Opened files l later e before opens left) = opened files l later e opens left
     keeps_all numbered _ _ (OpeningFailed files l r before opens clean) = ∥∥₁_map (keeps_all numbered (Down files) l before) (λ k. refuses files l r k opens clean)

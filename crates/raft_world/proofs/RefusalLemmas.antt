@@ -56,7 +56,7 @@ refused_outside mode folders n old new e (queue, refused) openable clear single 
     by_fault _ refused = absurd refused
 
 -- where no log file stands nothing is damaged
-pub no_log_clean : (folders : Folders) (n : Directory) → HasNoLog folders n → AreDetectableIn folders n (as_it_is n)
-no_log_clean folders n none queue file last =
+pub no_log_detectable : (folders : Folders) (n : Directory) → HasNoLog folders n → AreDetectableIn folders n (as_it_is n)
+no_log_detectable folders n none queue file last =
     let nothing : last_kept (all_of folders) queue n ≡ None = ap last_of (log_files-no_log queue folders n none) in
     let clash : None ≡ Some file = sym nothing ∙ last in absurd cc

@@ -33,10 +33,6 @@ abbrev pub IsMoment : List Directory → List Directory → Directory → Direct
 IsMoment old new now n =
     (n ≡ now) ⊎ ((later earlier : List Directory) × (new ≡ (later ++ n ∷ earlier) ++ old))
 
--- the premise of the law: what a crash left of the log files has clean damage (docs/READING.md)
-abbrev pub IsClean : Folders → Directory → CrashImage → Type 0
-IsClean folders n left = AreDetectableIn folders n left
-
 module _ {F H R W : Type 0} (g : Ghosts F H R W) (folders : Folders) where
   -- a node runs an engine, or it is down and there are files alone
   pub data Node : Type 0 where
@@ -54,21 +50,22 @@ module _ {F H R W : Type 0} (g : Ghosts F H R W) (folders : Folders) where
     pub tolerant : TolerateIn folders config
     pub opens : Opens config files answer
 
-  -- a crash at this moment left these files, with clean damage
+  -- a crash at this moment left these files, with detectable damage
   pub record HasCrashed (n : Directory) (files : F) : Type 0 where
     pub left : CrashImage
     pub leaves : Leaves n left
     pub restarted : IsRestarted n left (g.directory files)
-    pub clean : IsClean folders n left
+        -- the premise of the law (docs/READING.md)
+    pub detectable : AreDetectableIn folders n left
 
   -- a moment of an opening
   abbrev pub IsMomentOfOpening : F → Result (Engine F H R W g) (Refused F) → Directory → Type 0
   IsMomentOfOpening files answer n = let after = opened_files answer in
       IsMoment (g.moments files) (g.moments after) (g.directory after) n
 
-  -- files without a crash, with clean damage
-  abbrev pub AreClean : F → Type 0
-  AreClean files = IsClean folders (g.directory files) (as_it_is (g.directory files))
+  -- files as they are, without a crash, with detectable damage
+  abbrev pub AreDetectable : F → Type 0
+  AreDetectable files = let n = g.directory files in AreDetectableIn folders n (as_it_is n)
 
 -- the ledger of an engine of whose past nothing is known
 abbrev pub ledger_of : {F H R W : Type 0} {g : Ghosts F H R W} → Engine F H R W g → Ledger
@@ -92,7 +89,7 @@ module _ {F H R W : Type 0} (g : Ghosts F H R W) (folders : Folders) (numbered :
         → Happens (Running e) later
     -- an opening fails
     OpeningFailed : (files : F) (l : Ledger) (r : Refused F) → Happens (Down files) l
-        → HasOpened g folders files (Err r) → AreClean g folders r.file_system
+        → HasOpened g folders files (Err r) → AreDetectable g folders r.file_system
         → Happens (Down r.file_system) l
     -- a call returns, and the engine hasn't failed
     Called : (e later : Engine F H R W g) (l : Ledger) (effect : Effect) → Happens (Running e) l
@@ -113,10 +110,10 @@ module _ {F H R W : Type 0} (g : Ghosts F H R W) (folders : Folders) (numbered :
         → Reopens e later → Happens (Running later) (all_durable l)
     -- the engine is given up, or a close or a reopening fails
     GivenUp : (e : Engine F H R W g) (l : Ledger) (files : F) → Happens (Running e) l
-        → GivesUp e files → AreClean g folders files → Happens (Down files) l
+        → GivesUp e files → AreDetectable g folders files → Happens (Down files) l
     -- the process is killed between two calls, and the machine runs on
     Killed : (e : Engine F H R W g) (l : Ledger) (files : F) → Happens (Running e) l
-        → g.directory files ≡ directory_of e → AreClean g folders files → Happens (Down files) l
+        → g.directory files ≡ directory_of e → AreDetectable g folders files → Happens (Down files) l
     -- the machine crashes between two calls, or while no engine runs
     Crashed : (node : Node g folders) (l : Ledger) (files : F) → Happens node l
         → HasCrashed g folders (files_of g folders node) files → Happens (Down files) l
@@ -139,7 +136,7 @@ module _ {F H R W : Type 0} (g : Ghosts F H R W) (folders : Folders) (numbered :
     KilledInOpening : (files : F) (l : Ledger) (answer : Result (Engine F H R W g) (Refused F))
         (later : F) → Happens (Down files) l → HasOpened g folders files answer
         → IsMomentOfOpening g folders files answer (g.directory later)
-        → AreClean g folders later → Happens (Down later) l
+        → AreDetectable g folders later → Happens (Down later) l
 
 module _ {F H R W : Type 0} (g : Ghosts F H R W) (folders : Folders) where
   -- an opening of files with this ledger returns an engine in these folders that hasn't failed, is

@@ -38,7 +38,7 @@ pub fn a_crash_in_a_call_leaves_a_prefix<F: FileSystem>()
     crash_leaves_contents();
 }
 
-/// After a crash with any damage, also where that isn't clean, the durable batches are read first.
+/// After a crash with any damage, also if that isn't detectable, the durable batches are read first.
 pub fn what_is_kept_is_read_first<F: FileSystem>()
     ensures { WhatIsKeptIsReadFirst F.FileSystem }
 {
