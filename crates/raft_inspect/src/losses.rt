@@ -43,9 +43,10 @@ pub struct Losses {
 }
 
 impl Losses {
-    /// What an opening with these settings loses of the log's files, found before it and with nothing changed: the bytes
-    /// that it cuts off, zeros that were made ahead left out, and the files that it passes over. It fails as `Io` where a
-    /// storage call failed, or as `Memory`.
+    /// What an opening with these settings would lose of the log's files, found before it and
+    /// without a change. These are the bytes that it would cut off, except zeros that were made
+    /// ahead, and the files that it would pass over. It fails as `Io` if a storage call failed, or
+    /// as `Memory`.
     pub fn find<F: FileSystem>(
         alloc: Global,
         config: &Config,
