@@ -142,8 +142,8 @@ module _ {F H R W : Type 0} (g : Ghosts F H R W) where
       (λ alive. weaker _ (LeavesAllowed (folders_of old) (durable_of old) (unsynced_of old)) (moments_of old) (moments_of new) (directory_of new) (λ n leaves. subst (λ l. LeavesAllowed (folders_of old) (durable_of old) l n) (append-nil (unsynced_of old)) leaves) sync.advance.any_moment.throughout)
       sync.advance.only.log sync.unchanged
 
-  pub purge_has_effect : (T : Type 0) → PurgeHasEffect g T
-  purge_has_effect T queue ends_open no_id result old new log stays = writes_nothing (is_ok result) old new log.progress (λ alive. log.any_moment.throughout) log.others stays
+  pub purge_has_effect : (T : Type 0) (EndsOpen LacksId : Engine F H R W g → Type 0) → PurgeHasEffect g T EndsOpen LacksId
+  purge_has_effect T EndsOpen LacksId queue result old new log stays = writes_nothing (is_ok result) old new log.progress (λ alive. log.any_moment.throughout) log.others stays
 
   -- Reads.
 

@@ -82,10 +82,12 @@ module _ {F H R W : Type 0} (g : Ghosts F H R W) where
   SyncHasEffect = (old new : Engine F H R W g) (result : Result (Unit {0}) Fault)
       → IsSync old new result → HasEffect (sync_effect result) old new
 
-  -- each purge, also in short calls, by its clauses `log` and `unchanged`
-  abbrev pub PurgeHasEffect : Type 0 → Type 0
-  PurgeHasEffect T = (queue : LogQueue) (ends_open no_id : Type 0) (result : Result T Fault)
-      (old new : Engine F H R W g) → PurgesLog queue ends_open no_id result old new
+  -- each purge, also in short calls, by its clauses `log` and `unchanged`; these two words are those of
+  -- its `log`
+  abbrev pub PurgeHasEffect : Type 0 → (Engine F H R W g → Type 0) → (Engine F H R W g → Type 0)
+      → Type 0
+  PurgeHasEffect T EndsOpen LacksId = (queue : LogQueue) (result : Result T Fault)
+      (old new : Engine F H R W g) → PurgesLog queue (EndsOpen new) (LacksId new) result old new
       → (has_failed old ≡ true → StaysFailed old new) → HasEffect (sync_effect result) old new
 
   -- each read that takes `&mut self`, by its clause `unchanged`

@@ -1,6 +1,7 @@
 //! The laws of a log: what holds after any calls, crashes, closes and openings.
 ghost use Rattle.std.specs.Prelude.{ℕ, Option, Vec};
 ghost use Rattle.std.specs.declared.alloc.Global.{Global};
+ghost use Rattle.raft_log_engine.specs.Purge.{HasLastId, HasOpenGroup};
 ghost use Rattle.raft_world.specs.Effects.{ArmingHasNoEffect, CloseEnds, CompactionHasEffect, GiveUpEnds, PurgeHasEffect, ReadHasNoEffect, ReopenEnds, SyncHasEffect, WriteGroupHasEffect, WriteHasEffect, WriteOnceHasEffect};
 ghost use Rattle.raft_world.specs.Happens.{TheLogIsSafe};
 ghost use Rattle.raft_world.specs.Once.{NumbersActOnce};
@@ -54,12 +55,12 @@ pub fn calls_have_effects<F: FileSystem>()
     ensures write_group { WriteGroupHasEffect F.FileSystem }
     ensures compact_to { CompactionHasEffect F.FileSystem }
     ensures sync { SyncHasEffect F.FileSystem }
-    ensures purge_expired_files { PurgeHasEffect F.FileSystem (Vec ℕ Global) }
-    ensures must_rewrite_append_queue { PurgeHasEffect F.FileSystem ℕ }
-    ensures must_rewrite_rewrite_queue { PurgeHasEffect F.FileSystem ℕ }
-    ensures must_purge_all_stale { PurgeHasEffect F.FileSystem ℕ }
-    ensures must_rewrite_append_groups { PurgeHasEffect F.FileSystem (Option ℕ) }
-    ensures must_rewrite_rewrite_groups { PurgeHasEffect F.FileSystem (Option ℕ) }
+    ensures purge_expired_files { PurgeHasEffect F.FileSystem (Vec ℕ Global) HasOpenGroup HasLastId }
+    ensures must_rewrite_append_queue { PurgeHasEffect F.FileSystem ℕ (λ _. ⊥) (λ _. ⊥) }
+    ensures must_rewrite_rewrite_queue { PurgeHasEffect F.FileSystem ℕ HasOpenGroup HasLastId }
+    ensures must_purge_all_stale { PurgeHasEffect F.FileSystem ℕ (λ _. ⊥) (λ _. ⊥) }
+    ensures must_rewrite_append_groups { PurgeHasEffect F.FileSystem (Option ℕ) (λ _. ⊥) (λ _. ⊥) }
+    ensures must_rewrite_rewrite_groups { PurgeHasEffect F.FileSystem (Option ℕ) HasOpenGroup HasLastId }
     ensures get_entry { ReadHasNoEffect F.FileSystem }
     ensures fetch_entries_to { ReadHasNoEffect F.FileSystem }
     ensures load_entry { ReadHasNoEffect F.FileSystem }

@@ -1,5 +1,6 @@
 use Rattle.std.specs.Prelude.{ℕ, Option, Vec}
 use Rattle.std.specs.declared.alloc.Global.{Global}
+use Rattle.raft_log_engine.specs.Purge.{HasLastId, HasOpenGroup}
 use Rattle.raft_world.proofs.EffectLemmas.{arming_has_no_effect, close_ends, compaction_has_effect, give_up_ends, purge_has_effect, read_has_no_effect, reopen_ends, sync_has_effect, write_group_has_effect, write_has_effect, write_once_has_effect}
 use Rattle.raft_world.proofs.laws.calls_have_effects.Goals as goal
 
@@ -19,22 +20,22 @@ pub returns-clause-sync : goal.returns-clause-sync
 returns-clause-sync g c = sync_has_effect g.F.FileSystem
 
 pub returns-clause-purge_expired_files : goal.returns-clause-purge_expired_files
-returns-clause-purge_expired_files g c = purge_has_effect g.F.FileSystem (Vec ℕ Global)
+returns-clause-purge_expired_files g c = purge_has_effect g.F.FileSystem (Vec ℕ Global) HasOpenGroup HasLastId
 
 pub returns-clause-must_rewrite_append_queue : goal.returns-clause-must_rewrite_append_queue
-returns-clause-must_rewrite_append_queue g c = purge_has_effect g.F.FileSystem ℕ
+returns-clause-must_rewrite_append_queue g c = purge_has_effect g.F.FileSystem ℕ (λ _. ⊥) (λ _. ⊥)
 
 pub returns-clause-must_rewrite_rewrite_queue : goal.returns-clause-must_rewrite_rewrite_queue
-returns-clause-must_rewrite_rewrite_queue g c = purge_has_effect g.F.FileSystem ℕ
+returns-clause-must_rewrite_rewrite_queue g c = purge_has_effect g.F.FileSystem ℕ HasOpenGroup HasLastId
 
 pub returns-clause-must_purge_all_stale : goal.returns-clause-must_purge_all_stale
-returns-clause-must_purge_all_stale g c = purge_has_effect g.F.FileSystem ℕ
+returns-clause-must_purge_all_stale g c = purge_has_effect g.F.FileSystem ℕ (λ _. ⊥) (λ _. ⊥)
 
 pub returns-clause-must_rewrite_append_groups : goal.returns-clause-must_rewrite_append_groups
-returns-clause-must_rewrite_append_groups g c = purge_has_effect g.F.FileSystem (Option ℕ)
+returns-clause-must_rewrite_append_groups g c = purge_has_effect g.F.FileSystem (Option ℕ) (λ _. ⊥) (λ _. ⊥)
 
 pub returns-clause-must_rewrite_rewrite_groups : goal.returns-clause-must_rewrite_rewrite_groups
-returns-clause-must_rewrite_rewrite_groups g c = purge_has_effect g.F.FileSystem (Option ℕ)
+returns-clause-must_rewrite_rewrite_groups g c = purge_has_effect g.F.FileSystem (Option ℕ) HasOpenGroup HasLastId
 
 pub returns-clause-get_entry : goal.returns-clause-get_entry
 returns-clause-get_entry g c = read_has_no_effect g.F.FileSystem
