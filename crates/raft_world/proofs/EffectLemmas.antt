@@ -15,6 +15,7 @@ use Rattle.raft_env.specs.declared.env.FileSystem.{Ghosts}
 use Rattle.raft_crash_laws.specs.Contents.{found_contents}
 use Rattle.raft_crash_laws.specs.Crash.{LeavesAllowed, RecoversContents, pending_of, written_batch}
 use Rattle.raft_log_engine.specs.Advance.{Advances, ChangesOnlyItsLog, state_of}
+use Rattle.raft_log_engine.specs.Calls.{IsWrite}
 use Rattle.raft_log_engine.specs.Cause.{plain_part, plain_parts}
 use Rattle.raft_log_engine.specs.Durability.{Durability, Progresses, StaysFailed, accepted_by, covered_by, durability_of}
 use Rattle.raft_log_engine.specs.Engine.{begun_of, contents_of, directory_of, durable_of, folders_of, found_of, has_failed, moments_of, queue_of, target_size_of, unsynced_of}
@@ -24,7 +25,7 @@ use Rattle.raft_log_engine.specs.Reads.{compact_batch}
 use Rattle.raft_log_engine.specs.declared.engine.Engine.{Engine}
 use Rattle.raft_log_engine.proofs.EngineLemmas.{engine_keeps, engine_leaves}
 use Rattle.raft_world.specs.Call.{HasEffect, MayFollow}
-use Rattle.raft_world.specs.Effects.{ArmingHasNoEffect, CloseEnds, CompactionHasEffect, GiveUpEnds, PurgeHasEffect, ReadHasNoEffect, ReopenEnds, SyncHasEffect, WriteGroupHasEffect, WriteHasEffect, WriteOnceHasEffect, no_effect}
+use Rattle.raft_world.specs.Effects.{ArmingHasNoEffect, CloseEnds, CompactionHasEffect, GiveUpEnds, PurgeHasEffect, ReadHasNoEffect, ReopenEnds, SyncHasEffect, WriteGroupHasEffect, WriteHasEffect, WriteOnceHasEffect, no_effect, write_effect}
 use Rattle.raft_world.proofs.NumberLemmas.{none_chosen, none_follow}
 use Rattle.raft_world.proofs.PlainLemmas.{accepted_follow, compact_follows, once_follows, part_plain, parts_follow, plain_follows}
 
@@ -76,11 +77,15 @@ module _ {F H R W : Type 0} (g : Ghosts F H R W) where
         flights = λ alive choice. chosen_one (contents_of old) batch choice flight;
       }
 
-  pub write_has_effect : WriteHasEffect g
-  write_has_effect batch rest sync old new result write =
+  pub write_by_clauses : (batch rest : Batch) (sync : Bool) (old new : Engine F H R W g) (result : Result ℕ Fault) → IsWrite batch rest sync old new result
+      → Advances (accepted_by result (written_batch (plain_part batch))) (covered_by result sync) (pending_of (contents_of old) (plain_part batch)) (state_of old) (state_of new) → HasEffect (write_effect (plain_part batch) sync result) old new
+  write_by_clauses batch rest sync old new result call plain =
       let part = plain_part batch in
       let follow = plain_follows (contents_of old) part (part_plain batch) in
-      advance_has_effect part (accepted_by result (written_batch part)) (covered_by result sync) old new write.plain (λ gone. (write.call.unchanged gone).0) (accepted_one (contents_of old) part result follow) follow
+      advance_has_effect part (accepted_by result (written_batch part)) (covered_by result sync) old new plain (λ gone. (call.unchanged gone).0) (accepted_one (contents_of old) part result follow) follow
+
+  pub write_has_effect : WriteHasEffect g
+  write_has_effect batch rest sync old new result write = write_by_clauses batch rest sync old new result write.call write.plain
 
   pub write_once_has_effect : WriteOnceHasEffect g
   write_once_has_effect batch rest pairs sync old new result numbers write =
