@@ -5,11 +5,12 @@ use Rattle.raft_log_engine.specs.Engine.{folders_of}
 use Rattle.raft_world.specs.Happens.{BeginsWith, CrashedInCall, Down, ledger_of}
 use Rattle.raft_world.specs.Ledger.{interrupted}
 use Rattle.raft_world.proofs.HappensLemmas.{is_safe}
+use Rattle.raft_world.proofs.Below.{CrashLaws}
 use Rattle.raft_world.proofs.laws.a_crash_in_a_call_leaves_a_prefix.Goals as goal
 
 pub returns : goal.returns
 returns g c = λ old new later effect n files call alive moment crash opens.
-    let laws = record {
+    let laws : CrashLaws = record {
       left = c.crash_leaves_contents.ensures.left;
       restarted = c.crash_leaves_contents.ensures.restarted;
       found = c.crash_leaves_contents.ensures.found;

@@ -1,10 +1,11 @@
 use Rattle.raft_log_engine.proofs.EngineLemmas.{engine_keeps}
 use Rattle.raft_world.proofs.NumberLemmas.{acts_once}
+use Rattle.raft_world.proofs.Below.{CrashLaws}
 use Rattle.raft_world.proofs.laws.numbers_act_once.Goals as goal
 
 pub returns : goal.returns
 returns g c = λ folders node l happened.
-    let laws = record {
+    let laws : CrashLaws = record {
       left = c.crash_leaves_contents.ensures.left;
       restarted = c.crash_leaves_contents.ensures.restarted;
       found = c.crash_leaves_contents.ensures.found;

@@ -1,10 +1,11 @@
 use Rattle.raft_log_engine.proofs.EngineLemmas.{engine_keeps}
 use Rattle.raft_world.proofs.HappensLemmas.{is_safe}
+use Rattle.raft_world.proofs.Below.{CrashLaws}
 use Rattle.raft_world.proofs.laws.the_log_is_safe.Goals as goal
 
 pub returns : goal.returns
 returns g c = λ folders numbered node l happened.
-    let laws = record {
+    let laws : CrashLaws = record {
       left = c.crash_leaves_contents.ensures.left;
       restarted = c.crash_leaves_contents.ensures.restarted;
       found = c.crash_leaves_contents.ensures.found;
