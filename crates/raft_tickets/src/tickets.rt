@@ -56,7 +56,7 @@ impl<F: FileSystem, J: Naming> Tickets<F, J> {
     }
 
     /// Writes a batch without a sync: a ticket for it if the engine accepted it, which leaves the
-    /// batch empty. Otherwise it fails as the engine did, or as `TrailFull` or `Memory` if the
+    /// batch empty. Otherwise it fails as the engine did, or with `TrailFull` or `Memory` if the
     /// engine wasn't called. `Layer` is for a book that has calls of another engine. A refused
     /// batch is as it was, unless the engine returned `Io` or `Memory`, since it may have failed
     /// then.
