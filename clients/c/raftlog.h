@@ -76,7 +76,7 @@
 extern "C" {
 #endif
 
-#define RAFTLOG_VERSION "0.1.0"
+#define RAFTLOG_VERSION "0.2.0"
 
 /* The version of the library that is loaded. RAFTLOG_VERSION is that of this header, which may be an older one. */
 const char *raftlog_version(void);
