@@ -153,7 +153,7 @@ fn both_refuse_the_same_settings(rt: HostRuntime) -> Result<(), Fail> {
     rows_hold(rt.alloc(), &mut (), &REFUSED)
 }
 
-/// The lines of a table that `serde` accepts and `raft_settings` refuses, and the reason of the latter:
+/// The lines of a table that `serde` accepts and `raft_settings` refuses, and why the latter does:
 /// a mode as a table whose key is its name, which is another form of an enum in `serde`.
 struct Different(&'static str, &'static str);
 
