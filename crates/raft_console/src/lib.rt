@@ -10,7 +10,10 @@ mod streams;
 
 use anyhow::anyhow;
 pub use input::{bytes_of, file_or_input};
-pub use line_input::{EntryLine, Pair, Spelling, read_entry_lines, read_lines, read_values};
+pub use line_input::{
+    EntryLine, GroupValue, LineForm, Pair, Spelling, member, read_entry_lines, read_lines,
+    read_object, read_values,
+};
 pub use output::{Output, print_bytes};
 pub use progress::Progress;
 use raft_base::{Fault, IoKind};

@@ -1,0 +1,142 @@
+//! Checksums of what a log holds.
+
+use anyhow::Result;
+use raft_command_line::{Indexes, Look, Request};
+use raft_commands::{Work, look_by};
+use raft_console::{Output, Status, or_failure};
+use raft_env::FileSystem;
+use raft_inspect::Word;
+use raft_log_engine::Engine;
+use raft_records::Fault;
+use raft_sum::{GroupSum, LogSum};
+use std::alloc::{AllocError, Global};
+use std::thread::Threads;
+
+/// Prints a line for each group that has entries or keys: how many, and their checksum; and one for all groups. With a
+/// group it prints that one alone, and with indexes the checksum of its entries between them.
+pub fn sum<R: Threads + Sync>(
+    rt: HostRuntime,
+    threads: &R,
+    request: &Request<'_>,
+    group: Option<u64>,
+    indexes: Indexes,
+) -> Result<Status> {
+    let look = Look::Sum(group, indexes);
+    look_by(rt, threads, request, look, &mut Sum { group, indexes })
+}
+
+#[derive(Drop)]
+struct Sum {
+    group: Option<u64>,
+    indexes: Indexes,
+}
+
+/// What was summed of a group.
+#[derive(Clone, Copy)]
+struct Summed {
+    entries: u64,
+    keys: u64,
+    sum: [u8; 32],
+}
+
+impl Work for Sum {
+    fn carry_out<F: FileSystem>(
+        &mut self,
+        rt: &HostRuntime,
+        engine: &mut Engine<F>,
+        _request: &Request<'_>,
+        out: &mut Output,
+    ) -> Result<Status> {
+        let alloc = rt.alloc();
+        if let Some(group) = self.group {
+            let summed = or_failure(
+                sum_group(engine, group, self.indexes),
+                "it cannot be summed",
+            )?;
+            add_line(alloc, group, summed, out)?;
+            return Ok(Status::Done);
+        }
+        let groups = or_failure(engine.raft_groups(), "the groups cannot be listed")?;
+        let mut all = LogSum::new();
+        let mut count = 0u64;
+        for group in groups {
+            let summed = or_failure(
+                sum_group(engine, group, self.indexes),
+                "it cannot be summed",
+            )?;
+            if summed.entries > 0 || summed.keys > 0 {
+                count = count.saturating_add(1);
+                all.add_group(summed.sum.as_slice());
+                add_line(alloc, group, summed, out)?;
+            }
+        }
+        let sum = digits(alloc, &all.finish())?;
+        out.named(&[
+            ("groups", Word::Number(count)),
+            ("sum", Word::Text(sum.as_str())),
+        ])?;
+        Ok(Status::Done)
+    }
+}
+
+fn add_line(alloc: Global, group: u64, summed: Summed, out: &mut Output) -> Result<()> {
+    let sum = digits(alloc, &summed.sum)?;
+    out.named(&[
+        ("group", Word::Number(group)),
+        ("entries", Word::Number(summed.entries)),
+        ("keys", Word::Number(summed.keys)),
+        ("sum", Word::Text(sum.as_str())),
+    ])
+}
+
+fn digits(alloc: Global, bytes: &[u8]) -> Result<String, AllocError> {
+    hex::encode(alloc, bytes)
+}
+
+// Keys count where no index is named.
+fn sum_group<F: FileSystem>(
+    engine: &mut Engine<F>,
+    group: u64,
+    indexes: Indexes,
+) -> Result<Summed, Fault> {
+    let mut sum = GroupSum::new(group);
+    let entries = add_entries(engine, group, indexes, &mut sum)?;
+    let mut keys = 0u64;
+    if indexes.from.is_none() && indexes.to.is_none() {
+        engine.scan_raw_messages(
+            group,
+            None,
+            None,
+            false,
+            &mut |key: &[u8], value: &[u8]| {
+                keys = keys.saturating_add(1);
+                sum.add_pair(key, value);
+                true
+            },
+        )?;
+    }
+    Ok(Summed {
+        entries,
+        keys,
+        sum: sum.finish(),
+    })
+}
+
+fn add_entries<F: FileSystem>(
+    engine: &mut Engine<F>,
+    group: u64,
+    indexes: Indexes,
+    sum: &mut GroupSum,
+) -> Result<u64, Fault> {
+    let (Some(first), Some(last)) = (engine.first_index(group), engine.last_index(group)) else {
+        return Ok(0);
+    };
+    let mut count = 0u64;
+    for index in indexes.from.unwrap_or(first).max(first)..=indexes.to.unwrap_or(last).min(last) {
+        if let Some(place) = engine.load_entry(group, index)? {
+            sum.add_entry(index, engine.loaded(place));
+            count = count.saturating_add(1);
+        }
+    }
+    Ok(count)
+}
