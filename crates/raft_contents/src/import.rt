@@ -1,7 +1,7 @@
 //! Batches of lines that are written to a log.
 
 use crate::filling::Filling;
-use crate::line_items::{Content, LineItem, Marks, Place, read_items};
+use crate::line_items::{Content, LineItem, Place, marks_of, read_items};
 use anyhow::Result;
 use raft_command_line::{Import, Request};
 use raft_commands::{Work, change_by};
@@ -10,6 +10,7 @@ use raft_env::FileSystem;
 use raft_inspect::{Filter, ItemKind, Word};
 use raft_log_engine::Engine;
 use raft_records::Fault;
+use raft_whole_records::Marks;
 use std::mem;
 use std::thread::Threads;
 
@@ -31,7 +32,7 @@ pub fn import_lines<R: Threads + Sync>(
             Err(error) => return Err(error.context(path)),
         }
     };
-    let marks = Marks::of(alloc, &items)?;
+    let marks = marks_of(alloc, &items)?;
     let mut work = LineImport {
         items,
         marks,

@@ -3,12 +3,9 @@
 use anyhow::{Result, anyhow};
 use raft_console::{member, read_object};
 use raft_inspect::{Filter, ItemKind};
+use raft_whole_records::{Marks, is_mark_key, mark_in};
 use serde_json::Value;
-use std::alloc::Global;
-use std::collections::BTreeMap;
-
-/// The key of a mark, by which batches of the Rewrite queue count together or not at all (docs/FORMAT.md).
-const MARK_KEY: [u8; 3] = [b'_', b'_', 1];
+use std::alloc::{AllocError, Global};
 
 /// Where the record of an item stood: the queue, the file and the offset.
 #[derive(Clone, Copy, PartialEq, Eq)]
@@ -26,7 +23,7 @@ pub(crate) enum Content {
     Entry(u64, Vec<u8>),
     Clean,
     Compact(u64),
-    /// The mark of a batch: its first one, its last one, or another.
+    /// The mark of a batch of an atomic group.
     Mark(u8),
     /// Why the file could not be read on from here.
     Unread(String),
@@ -109,11 +106,8 @@ fn read_content(alloc: Global, object: &Value) -> Result<Content> {
 }
 
 fn put(key: Vec<u8>, value: Vec<u8>) -> Result<Content> {
-    if key.as_slice() == MARK_KEY.as_slice() {
-        return match value.as_slice() {
-            [mark] => Ok(Content::Mark(*mark)),
-            _ => Ok(Content::Mark(1)),
-        };
+    if is_mark_key(&key) {
+        return Ok(Content::Mark(mark_in(&value)));
     }
     Ok(Content::Put(key, value))
 }
@@ -138,45 +132,15 @@ fn place_in(object: &Value) -> Option<Place> {
     })
 }
 
-/// Which atomic groups of the Rewrite queue have a first batch and, after it, a last one.
-#[derive(Drop)]
-pub(crate) struct Marks {
-    /// Whether the group with this number has both; else it has a first one.
-    complete: BTreeMap<u64, bool>,
-}
-
-impl Marks {
-    pub fn of(alloc: Global, items: &[LineItem]) -> Result<Marks> {
-        let mut marks = Marks {
-            complete: BTreeMap::new(alloc),
-        };
-        for item in items {
-            if let (Content::Mark(mark), Some(place)) = (&item.content, item.place) {
-                if place.is_rewrite {
-                    marks.add(item.group, *mark)?;
-                }
+/// The marks of the Rewrite queue's batches.
+pub(crate) fn marks_of(alloc: Global, items: &[LineItem]) -> Result<Marks, AllocError> {
+    let mut marks = Marks::new(alloc);
+    for item in items {
+        if let (Content::Mark(mark), Some(place)) = (&item.content, item.place) {
+            if place.is_rewrite {
+                marks.add(item.group, *mark)?;
             }
         }
-        Ok(marks)
     }
-
-    fn add(&mut self, group: u64, mark: u8) -> Result<()> {
-        match mark {
-            0 if !self.complete.contains_key(&group) => {
-                self.complete.insert(group, false)?;
-            }
-            2 => {
-                if let Some(complete) = self.complete.get_mut(&group) {
-                    *complete = true;
-                }
-            }
-            _ => {}
-        }
-        Ok(())
-    }
-
-    /// Whether a batch that begins with the mark of a group counts.
-    pub fn counts(&self, group: u64) -> bool {
-        self.complete.get(&group) == Some(&true)
-    }
+    Ok(marks)
 }

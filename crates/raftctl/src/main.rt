@@ -8,6 +8,7 @@ use raft_commands::{change, look};
 use raft_console::{Status, print_bytes, take_closed_streams};
 use raft_contents::{import_lines, sum, truncate};
 use raft_offline::{fork_folder, print_settings, settings_of};
+use raft_salvage::{import_folder, salvage};
 use std::env;
 use std::process::ExitCode;
 use std::thread::Threads;
@@ -80,7 +81,11 @@ fn run<R: Threads + Sync>(rt: HostRuntime, threads: &R, request: Request<'_>) ->
         Verb::Settings => print_settings(&rt, &request.options),
         Verb::Fork(target) => fork_folder(rt, &request, target),
         Verb::Truncate(group, index) => truncate(rt, threads, &request, *group, *index),
-        Verb::Import(import) => import_lines(rt, threads, &request, *import),
+        Verb::Import(import) => match import.folder {
+            Some(folder) => import_folder(rt, threads, &request, *import, folder),
+            None => import_lines(rt, threads, &request, *import),
+        },
+        Verb::Salvage(asked) => salvage(rt, threads, &request, asked),
         _ => change(rt, threads, &request),
     }
 }

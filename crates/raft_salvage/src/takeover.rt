@@ -1,0 +1,85 @@
+//! The contents of another log's folder, written to this one with its settings.
+
+use crate::gathering::{Gathering, gather};
+use crate::report::Report;
+use crate::sources::{Part, Source, sources_of};
+use crate::writing::Writing;
+use anyhow::{Result, bail};
+use raft_command_line::{Import, Request};
+use raft_commands::change_by;
+use raft_console::{Output, Status};
+use raft_inspect::{Filter, ItemKind};
+use std::thread::Threads;
+
+/// Writes what another folder's log files stand for, whose entries may be compressed by LZ4. Where more of them can't
+/// be read than the end of a queue, nothing is done without `--cut`, and the status is 7; where the end of a queue
+/// can't be read it is left out and told, and the status is 4.
+pub fn import_folder<R: Threads + Sync>(
+    rt: HostRuntime,
+    threads: &R,
+    request: &Request<'_>,
+    import: Import<'_>,
+    folder: &str,
+) -> Result<Status> {
+    let mut sources = sources_of(&rt, folder, import.spill, &[])?;
+    sources.retain(|source| source.part == Part::Log);
+    if sources.is_empty() {
+        bail!("{folder}: no log file");
+    }
+    check_single(&sources)?;
+    let gathering = gather(&rt, &sources, false, request.options.quiet)?;
+    let Some(status) = judge(rt, request, folder, &gathering)? else {
+        return Ok(Status::Refused);
+    };
+    let mut writing = Writing {
+        tables: &gathering.tables,
+        filter: Filter {
+            group: import.group,
+            kind: import.kind.and_then(ItemKind::named),
+            from: None,
+            to: None,
+        },
+        status,
+    };
+    change_by(rt, threads, request, &mut writing)
+}
+
+// The sources are in the order of their numbers.
+fn check_single(sources: &[Source]) -> Result<()> {
+    for pair in sources.windows(2) {
+        if let [one, other] = pair {
+            if one.id == other.id {
+                bail!(
+                    "{} and {} have one number: remove one",
+                    one.path,
+                    other.path
+                );
+            }
+        }
+    }
+    Ok(())
+}
+
+// Tells what could not be read, and whether the import goes on.
+fn judge(
+    rt: HostRuntime,
+    request: &Request<'_>,
+    folder: &str,
+    gathering: &Gathering,
+) -> Result<Option<Status>> {
+    let report: &Report = &gathering.report;
+    if report.is_whole() {
+        return Ok(Some(Status::Done));
+    }
+    let mut out = Output::new(rt, &request.options);
+    report.print(&mut out)?;
+    out.print()?;
+    if report.loses_ends_alone() || request.options.changing.cut {
+        return Ok(Some(Status::WouldCut));
+    }
+    eprintln!(rt;
+        "raftctl: {folder}: more than the end of a queue cannot be read, and nothing was done: \
+        `raftctl {folder} salvage FOLDER` tells what comes back, `--cut` imports it"
+    )?;
+    Ok(None)
+}
