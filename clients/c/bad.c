@@ -49,7 +49,15 @@ static void nothing(raftlog *log) {
     CHECK(raftlog_batch_delete(batch, 1, NULL, 1) == RAFTLOG_INVALID);
     CHECK(raftlog_batch_entries(batch, 1, NULL, 1) == RAFTLOG_INVALID);
     CHECK(raftlog_batch_put(NULL, 1, "k", 1, "v", 1) == RAFTLOG_INVALID && raftlog_batch_clean(NULL, 1) == RAFTLOG_INVALID);
-    CHECK(raftlog_batch_is_empty(batch));
+    CHECK(raftlog_batch_is_empty(batch) && raftlog_batch_is_empty(NULL));
+    raftlog_batch_clear(NULL);
+    raftlog_batch_free(NULL);
+    raftlog_bytes_free(NULL);
+    size_t place = 0;
+    uint64_t group;
+    raftlog_entry entry;
+    CHECK(!raftlog_next_entry(NULL, &place, &entry) && !raftlog_next_group(NULL, &place, &group));
+    CHECK(!raftlog_next_pair(NULL, &place, &lacking, &lacking));
     CHECK(raftlog_write(log, NULL, true) == RAFTLOG_INVALID && raftlog_write(NULL, batch, true) == RAFTLOG_INVALID);
     CHECK(raftlog_write_bytes(log, NULL, 8, true) == RAFTLOG_INVALID && says(log, "invalid argument"));
     uint64_t number = 1;

@@ -11,7 +11,7 @@ struct raftlog_batch {
 };
 
 static bool take_number(const raftlog_bytes *bytes, size_t *at, uint64_t *number) {
-    if (*at > bytes->len || bytes->len - *at < 8) return false;
+    if (!bytes || *at > bytes->len || bytes->len - *at < 8) return false;
     *number = parts_number(bytes->data + *at);
     *at += 8;
     return true;
@@ -50,9 +50,11 @@ void raftlog_batch_free(raftlog_batch *batch) {
     free(batch);
 }
 
-void raftlog_batch_clear(raftlog_batch *batch) { batch->len = 0, batch->count = 0; }
+void raftlog_batch_clear(raftlog_batch *batch) {
+    if (batch) batch->len = 0, batch->count = 0;
+}
 
-bool raftlog_batch_is_empty(const raftlog_batch *batch) { return batch->count == 0; }
+bool raftlog_batch_is_empty(const raftlog_batch *batch) { return !batch || batch->count == 0; }
 
 static bool grow(raftlog_batch *batch, size_t wanted) {
     if (wanted > SIZE_MAX / 2) return false;

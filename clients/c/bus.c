@@ -33,7 +33,7 @@ int raftlog_survive_bus_errors(void) {
 
 int raftlog_expect_reads(raftlog *log, bool at_random) {
     if (!log) return RAFTLOG_INVALID;
-    if (!parts_begin_read(log)) return parts_fail(log, RAFTLOG_FAILED, NULL);
+    if (!parts_begin_read(log)) return parts_fail_closed(log);
     heap_expect_reads(&log->heap, at_random);
     parts_end_read(log);
     return RAFTLOG_OK;

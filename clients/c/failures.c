@@ -3,6 +3,8 @@
 
 #include <stdlib.h>
 
+const char *raftlog_version(void) { return RAFTLOG_VERSION; }
+
 const char *raftlog_code_text(int code) {
     switch (code) {
     case RAFTLOG_OK: return "done";

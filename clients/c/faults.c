@@ -3,7 +3,9 @@
 
 #include <errno.h>
 #include <pthread.h>
+#include <signal.h>
 #include <stdio.h>
+#include <sys/sendfile.h>
 #include <sys/stat.h>
 #include <sys/syscall.h>
 #include <sys/types.h>
@@ -11,6 +13,7 @@
 
 atomic_int faults_left, faults_orders_left, faults_syncs;
 int faults_error = EIO;
+bool faults_kill;
 
 static pthread_mutex_t lock = PTHREAD_MUTEX_INITIALIZER;
 static pthread_cond_t moved = PTHREAD_COND_INITIALIZER;
@@ -48,6 +51,7 @@ static int fails_at(atomic_int *turn) {
     int left = atomic_load(turn);
     while (left && !atomic_compare_exchange_weak(turn, &left, left - 1)) {}
     if (left != 1) return 0;
+    if (faults_kill) kill(getpid(), SIGKILL);
     errno = faults_error;
     return 1;
 }
@@ -109,11 +113,21 @@ int __real_ftruncate(int fd, off_t len);
 int __wrap_ftruncate(int fd, off_t len) { return fails() ? -1 : __real_ftruncate(fd, len); }
 int __real_fsync(int fd);
 int __wrap_fsync(int fd) { return fails() ? -1 : __real_fsync(fd); }
-int __real_unlink(const char *path);
-int __wrap_unlink(const char *path) { return fails() ? -1 : __real_unlink(path); }
-int __real_rename(const char *from, const char *to);
-int __wrap_rename(const char *from, const char *to) {
-    return fails() ? -1 : __real_rename(from, to);
+int __real_unlinkat(int in, const char *name, int flags);
+int __wrap_unlinkat(int in, const char *name, int flags) {
+    return fails() ? -1 : __real_unlinkat(in, name, flags);
+}
+int __real_renameat(int in, const char *from, int other, const char *to);
+int __wrap_renameat(int in, const char *from, int other, const char *to) {
+    return fails() ? -1 : __real_renameat(in, from, other, to);
+}
+int __real_mkdirat(int in, const char *name, mode_t mode);
+int __wrap_mkdirat(int in, const char *name, mode_t mode) {
+    return fails() ? -1 : __real_mkdirat(in, name, mode);
+}
+ssize_t __real_sendfile(int to, int from, off_t *at, size_t len);
+ssize_t __wrap_sendfile(int to, int from, off_t *at, size_t len) {
+    return fails() ? -1 : __real_sendfile(to, from, at, len);
 }
 int __real_mkdir(const char *path, mode_t mode);
 int __wrap_mkdir(const char *path, mode_t mode) { return fails() ? -1 : __real_mkdir(path, mode); }

@@ -11,6 +11,9 @@
 extern atomic_int faults_left;
 extern int faults_error;
 
+/* The process is killed at that call instead. */
+extern bool faults_kill;
+
 /* The order of the proved part that can't be given, counted likewise. */
 extern atomic_int faults_orders_left;
 

@@ -183,7 +183,7 @@ static void play(const char *folder, const char *line) {
     raftlog *log = open_at(folder);
     raftlog_counts before, after;
     hold(log, &held);
-    CHECK(!raftlog_stats(log, &before));
+    CHECK(!raftlog_stats(log, &before, sizeof before));
     bool is_order = strchr(words[1], 'o') != NULL;
     int count = calls_of(words[0], log, calls), fails = atoi(words[1] + strspn(words[1], " o"));
     for (int i = 0; i < count; i++) {
@@ -201,7 +201,7 @@ static void play(const char *folder, const char *line) {
     atomic_store(&faults_left, 0);
     if (fails) fails_to_read(log);
     answers_are(words[2], &held, calls, count);
-    CHECK(!raftlog_stats(log, &after) && after.rounds - before.rounds == (uint64_t)atoi(words[3]));
+    CHECK(!raftlog_stats(log, &after, sizeof after) && after.rounds - before.rounds == (uint64_t)atoi(words[3]));
     if (!strchr(words[4], '?')) CHECK(atomic_load(&faults_syncs) - syncs == atoi(words[4]));
     CHECK(raftlog_close(log) == (fails ? RAFTLOG_FAILED : RAFTLOG_OK));
     finds(folder, calls, count);
@@ -228,7 +228,7 @@ static void close_beside(const char *folder) {
     }
     CHECK(!pthread_create(&closer, NULL, close_it, log));
     raftlog_counts counts;
-    for (int left = PATIENCE; raftlog_stats(log, &counts) != RAFTLOG_FAILED; left--) {
+    for (int left = PATIENCE; raftlog_stats(log, &counts, sizeof counts) != RAFTLOG_FAILED; left--) {
         CHECK(left > 0);
         usleep(PAUSE);
     }
@@ -261,7 +261,7 @@ static void come_late(const char *folder) {
     raftlog *log = open_at(folder);
     raftlog_counts before, after;
     hold(log, &held);
-    CHECK(!raftlog_stats(log, &before));
+    CHECK(!raftlog_stats(log, &before, sizeof before));
     int count = calls_of(kinds, log, calls), syncs = atomic_load(&faults_syncs);
     begin(&calls[0]);
     settle(&calls[0]);
@@ -279,7 +279,7 @@ static void come_late(const char *folder) {
     faults_hold_syncs(false);
     end(&held);
     for (int i = 0; i < count; i++) end(&calls[i]);
-    CHECK(!raftlog_stats(log, &after) && after.rounds - before.rounds == 3
+    CHECK(!raftlog_stats(log, &after, sizeof after) && after.rounds - before.rounds == 3
           && after.largest_round == 4 && calls[1].code == RAFTLOG_INVALID);
     CHECK(!raftlog_close(log));
     finds(folder, calls, count);

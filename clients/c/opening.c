@@ -7,7 +7,6 @@
 #include <fcntl.h>
 #include <stdio.h>
 #include <stdlib.h>
-#include <sys/file.h>
 #include <sys/mman.h>
 #include <sys/stat.h>
 #include <unistd.h>
@@ -30,11 +29,20 @@ struct found {
     size_t text_room;
 };
 
-/* Fails for what stands at a place. EILSEQ: its name is no UTF-8. */
+/* Fails at a place, with the system's cause; EILSEQ is what RAFTLOG_NOT_PLAIN says. */
 static int fail(struct found *found, const char *place, int error) {
-    if (place) parts_put_text(place, found->text, found->text_room);
-    if (error == ENOMEM) return RAFTLOG_NO_MEMORY;
-    return error == EILSEQ ? RAFTLOG_NOT_PLAIN : RAFTLOG_FOLDER;
+    int code = error == ENOMEM ? RAFTLOG_NO_MEMORY : error == EILSEQ ? RAFTLOG_NOT_PLAIN : RAFTLOG_FOLDER;
+    const char *cause = error == EILSEQ ? raftlog_code_text(code) : strerror(error);
+    if (found->text_room) snprintf(found->text, found->text_room, "%s%s%s", place ? place : "", place ? ": " : "", cause);
+    return code;
+}
+
+/* The same at a path from the log's folder. */
+static int fail_at(const raftlog *log, struct found *found, const char *path, int error) {
+    char *place = parts_joined(log->folder, path);
+    int code = fail(found, place, error);
+    free(place);
+    return code;
 }
 
 static void forget(struct found *found) {
@@ -59,7 +67,7 @@ static int add_file(struct found *found, char *path, uint64_t size) {
 }
 
 /* Sixteen digits and what tells the queue, as crates/raft_disk has it. */
-static bool is_log_name(const char *name) {
+bool parts_is_log_name(const char *name) {
     int digits = 0;
     while (isdigit((unsigned char)name[digits])) digits++;
     const char *end = name + digits;
@@ -68,50 +76,71 @@ static bool is_log_name(const char *name) {
     return digits == 16 && is_known;
 }
 
-static int find_in(raftlog *log, struct found *found, const char *path);
+static int find_in(raftlog *log, struct found *found, const char *path, int fd);
 
-/* Takes the path of what stands in a folder under this name, or frees it. What isn't the log's is
- * passed over: no order reaches it. */
-static int find_at(raftlog *log, struct found *found, char *path, const char *name) {
-    char *place = path ? parts_joined(log->folder, path) : NULL;
-    bool is_log = is_log_name(name), is_taken = false;
+static int find_below(raftlog *log, struct found *found, int in, const char *path, const char *name) {
+    int fd = openat(in, name, O_RDONLY | O_DIRECTORY | O_NOFOLLOW | O_CLOEXEC);
+    if (fd >= 0) return find_in(log, found, path, fd);
+    return errno == EACCES ? RAFTLOG_OK : fail_at(log, found, path, errno);
+}
+
+/* Whether this is the copy of a log file whose renaming to another file system didn't end. */
+static bool is_copy(const char *name) {
+    char log_name[64];
+    size_t len = strlen(name), end = strlen(PARTS_MOVED);
+    if (len < end || len - end >= sizeof log_name || strcmp(name + len - end, PARTS_MOVED)) return false;
+    memcpy(log_name, name, len - end);
+    log_name[len - end] = 0;
+    return parts_is_log_name(log_name);
+}
+
+/* Takes the path of what a folder holds under this name, or frees it. What isn't the log's is passed over: no order
+ * reaches it. */
+static int find_at(raftlog *log, struct found *found, int in, char *path, const char *name) {
+    bool is_log = parts_is_log_name(name), is_taken = false;
     struct stat is;
     int code = RAFTLOG_OK;
-    if (!place) code = RAFTLOG_NO_MEMORY;
-    else if (lstat(place, &is)) code = is_log ? fail(found, place, errno) : RAFTLOG_OK;
-    else if (!is_log) code = S_ISDIR(is.st_mode) ? find_in(log, found, path) : RAFTLOG_OK;
-    else if (!S_ISREG(is.st_mode) || is.st_nlink != 1) code = fail(found, place, EILSEQ);
+    if (!path) return fail(found, NULL, ENOMEM);
+    if (fstatat(in, name, &is, AT_SYMLINK_NOFOLLOW)) code = is_log ? fail_at(log, found, path, errno) : RAFTLOG_OK;
+    else if (S_ISREG(is.st_mode) && is_copy(name)) unlinkat(in, name, 0);
+    else if (!is_log) code = S_ISDIR(is.st_mode) ? find_below(log, found, in, path, name) : RAFTLOG_OK;
+    else if (!S_ISREG(is.st_mode) || is.st_nlink != 1) code = fail_at(log, found, path, EILSEQ);
     else is_taken = !(code = add_file(found, path, (uint64_t)is.st_size));
     if (!is_taken) free(path);
-    free(place);
     return code;
 }
 
-/* Finds what stands in an open folder. */
+/* A folder below the log's in which log files were found is held. */
+static int hold_below(raftlog *log, struct found *found, const char *path, int in) {
+    int fd = openat(in, ".", O_RDONLY | O_DIRECTORY | O_CLOEXEC);
+    int error = fd < 0 ? errno : parts_hold(log, path, strlen(path), fd);
+    return error ? fail_at(log, found, path, error) : RAFTLOG_OK;
+}
+
 static int find_all(raftlog *log, struct found *found, const char *path, DIR *dir) {
     struct dirent *entry;
     int code = RAFTLOG_OK;
+    size_t before = found->count;
     while (!code && (errno = 0, entry = readdir(dir))) {
         const char *name = entry->d_name;
         if (!strcmp(name, ".") || !strcmp(name, "..")) continue;
-        code = find_at(log, found, *path ? parts_joined(path, name) : strdup(name), name);
+        code = find_at(log, found, dirfd(dir), *path ? parts_joined(path, name) : strdup(name), name);
     }
-    return !code && errno ? fail(found, log->folder, errno) : code;
+    if (!code && errno) return fail_at(log, found, path, errno);
+    return code || !*path || found->count == before ? code : hold_below(log, found, path, dirfd(dir));
 }
 
-/* Hands a folder over, by its path from the log's, with those below it, and finds their files. One
- * below it that may not be read, or has no name in UTF-8, is passed over. */
-static int find_in(raftlog *log, struct found *found, const char *path) {
-    char *place = parts_joined(log->folder, path);
-    if (!place) return RAFTLOG_NO_MEMORY;
-    DIR *dir = opendir(place);
-    int error = dir ? fsync(dirfd(dir)) ? errno : 0 : errno, code = RAFTLOG_OK;
-    if (error && !(*path && error == EACCES)) code = fail(found, place, error);
+/* Hands a folder over, by its path from the log's, with those below it, and finds their files; the descriptor is
+ * closed. One below it that may not be read, or has no name in UTF-8, is passed over. */
+static int find_in(raftlog *log, struct found *found, const char *path, int fd) {
+    DIR *dir = fdopendir(fd);
+    int error = dir ? fsync(fd) ? errno : 0 : errno, code = RAFTLOG_OK;
+    if (error && !(*path && error == EACCES)) code = fail_at(log, found, path, error);
     if (!error) code = raft_c_add_folder(&log->handle, parts_some(path), strlen(path));
     if (!error && !code) code = find_all(log, found, path, dir);
-    else if (!error) code = code == RAFTLOG_INVALID ? RAFTLOG_OK : fail(found, place, ENOMEM);
+    else if (!error) code = code == RAFTLOG_INVALID ? RAFTLOG_OK : fail_at(log, found, path, ENOMEM);
     if (dir) closedir(dir);
-    free(place);
+    else close(fd);
     return code;
 }
 
@@ -157,8 +186,10 @@ static int hand_over(raftlog *log, const char *path, const uint8_t *bytes, size_
 
 /* Hands a file over, whose bytes a process that was killed may have left in the system's memory
  * alone, and puts it behind the block that has its bytes then. */
-static int load_file(raftlog *log, const char *place, const char *path) {
-    int fd = open(place, O_RDONLY | O_CLOEXEC);
+static int load_file(raftlog *log, const char *path) {
+    const char *name;
+    int in = parts_folder_of(log, path, &name);
+    int fd = in < 0 ? -1 : openat(in, name, O_RDONLY | O_NOFOLLOW | O_CLOEXEC);
     if (fd < 0) return errno;
     struct stat found;
     uint8_t *bytes = NULL;
@@ -187,58 +218,69 @@ static int load_files(raftlog *log, struct found *found) {
     if (found->count) qsort(found->files, found->count, sizeof *found->files, compare_paths);
     for (size_t i = 0; i < found->count && !code; i++) {
         if (log->watch) log->watch(log->watch_with, done, found->size);
-        char *place = parts_joined(log->folder, found->files[i].path);
-        int error = place ? load_file(log, place, found->files[i].path) : ENOMEM;
-        if (error) code = fail(found, place, error);
-        free(place);
+        int error = load_file(log, found->files[i].path);
+        if (error) code = fail_at(log, found, found->files[i].path, error);
         done += found->files[i].size;
     }
     if (log->watch && !code) log->watch(log->watch_with, found->size, found->size);
+    parts_add(&log->counts.files, found->count);
     return code;
 }
 
 /* ---- the folder */
 
-/* A lock that is a pipe or a device isn't opened, which could wait. */
+/* Its path from the root of the system, for texts. */
+static int make_absolute(raftlog *log) {
+    if (*log->folder == '/') return 0;
+    char *here = getcwd(NULL, 0), *whole = here ? parts_joined(here, log->folder) : NULL;
+    free(here);
+    if (!whole) return errno == ENOMEM ? ENOMEM : 0;
+    free(log->folder);
+    log->folder = whole;
+    return 0;
+}
+
+/* A link that leads to the log's folder is followed, once. */
+static int hold_own(raftlog *log) {
+    parts_pause_forks();
+    int fd = open(log->folder, O_RDONLY | O_DIRECTORY | O_CLOEXEC);
+    int error = fd < 0 ? errno : parts_hold(log, "", 0, fd);
+    if (!error) log->root = fd;
+    parts_resume_forks();
+    return error;
+}
+
 static int lock_folder(raftlog *log, struct found *found) {
-    char *place = parts_joined(log->folder, "LOCK");
-    struct stat is;
-    int code = RAFTLOG_OK;
-    if (!place) return RAFTLOG_NO_MEMORY;
-    bool is_special = !stat(place, &is) && !S_ISREG(is.st_mode) && !S_ISDIR(is.st_mode);
-    if (is_special) code = fail(found, place, EILSEQ);
-    else if ((log->held = open(place, O_RDWR | O_CREAT | O_CLOEXEC, 0666)) < 0)
-        code = fail(found, log->folder, errno);
-    else if (flock(log->held, LOCK_EX | LOCK_NB)) {
-        bool is_in_use = errno == EWOULDBLOCK;
-        code = fail(found, log->folder, errno);
-        if (is_in_use) code = RAFTLOG_IN_USE;
-    }
-    free(place);
-    return code;
+    parts_pause_forks();
+    int error = parts_lock(log);
+    parts_resume_forks();
+    if (!error) return RAFTLOG_OK;
+    if (error != EWOULDBLOCK) return fail_at(log, found, "LOCK", error);
+    if (found->text_room) parts_tell_holder(log, found->text, found->text_room);
+    return RAFTLOG_IN_USE;
 }
 
 /* `raftctl` leaves a mark in a folder until its fork there is whole. */
 static int look_for_mark(raftlog *log, struct found *found) {
-    char *place = parts_joined(log->folder, "FORKING");
     struct stat is;
-    if (!place) return RAFTLOG_NO_MEMORY;
-    bool stands = !lstat(place, &is);
+    bool stands = !fstatat(log->root, "FORKING", &is, AT_SYMLINK_NOFOLLOW);
     if (stands && found->text_room)
         snprintf(found->text, found->text_room,
                  "%s: a fork into it has not ended: empty it and fork again", log->folder);
-    free(place);
     return stands ? RAFTLOG_FOLDER : RAFTLOG_OK;
 }
 
 static int find(raftlog *log, struct found *found) {
     int error = parts_make_folders(log->folder);
     if (!error) error = parts_sync_name(log->folder);
+    if (!error) error = hold_own(log);
+    if (!error) error = make_absolute(log);
     int code = error ? fail(found, log->folder, error) : lock_folder(log, found);
     if (!code) code = look_for_mark(log, found);
     if (code) return code;
     heap_begin(&log->heap, &log->lock);
-    code = find_in(log, found, "");
+    int fd = openat(log->root, ".", O_RDONLY | O_DIRECTORY | O_CLOEXEC);
+    code = fd < 0 ? fail(found, log->folder, errno) : find_in(log, found, "", fd);
     return code ? code : load_files(log, found);
 }
 

@@ -20,60 +20,11 @@ enum { ORDERS_BEGIN = 1 << 16, ORDERS_KEPT = 1 << 21 };
 /* What is ordered, as crates/raft_orders numbers it. */
 enum { CREATE = 1, DELETE, RENAME, MAKE_FOLDER, WRITE, TRUNCATE, ALLOCATE, SYNC };
 
-/* A byte, a number and two lengths stand before the parts of an order; room for a path. */
-enum { HEAD = 25, PATH_ROOM = 4096 };
+/* A byte, a number and two lengths stand before the parts of an order. */
+enum { HEAD = 25 };
 
 /* The longest write that is joined to the one before it. */
 enum { JOINED = 1 << 14 };
-
-char *parts_joined(const char *folder, const char *name) {
-    size_t len = strlen(folder) + strlen(name) + 2;
-    char *path = malloc(len);
-    if (path) snprintf(path, len, *name ? "%s/%s" : "%s", folder, name);
-    return path;
-}
-
-int parts_sync(const char *path) {
-    int fd = open(path, O_RDONLY | O_CLOEXEC);
-    if (fd < 0) return errno;
-    int error = fsync(fd) ? errno : 0;
-    close(fd);
-    return error;
-}
-
-/* The name of what stands at the path stays through a crash. */
-int parts_sync_name(const char *path) {
-    char *parent = strdup(path);
-    if (!parent) return ENOMEM;
-    size_t len = strlen(parent);
-    while (len > 1 && parent[len - 1] == '/') parent[--len] = 0;
-    char *slash = strrchr(parent, '/');
-    if (!slash) strcpy(parent, len ? "." : "/");
-    else slash[slash == parent] = 0;
-    int error = parts_sync(parent);
-    free(parent);
-    return error;
-}
-
-/* Makes a folder with those on the way to it, and syncs the folder of each that it made. */
-int parts_make_folders(const char *path) {
-    char *place = strdup(path);
-    if (!place) return ENOMEM;
-    int error = 0;
-    for (size_t end = 1, len = strlen(place); !error && end <= len; end++) {
-        if (place[end] != '/' && place[end] != 0) continue;
-        char was = place[end];
-        struct stat found;
-        place[end] = 0;
-        if (!stat(place, &found)) error = S_ISDIR(found.st_mode) ? 0 : ENOTDIR;
-        else if (errno != ENOENT) error = errno;
-        else if (!mkdir(place, 0777)) error = parts_sync_name(place);
-        else if (errno != EEXIST) error = errno;
-        place[end] = was;
-    }
-    free(place);
-    return error;
-}
 
 void parts_let_file_go(raftlog *log) {
     heap_let_go(&log->behind);
@@ -87,11 +38,11 @@ void parts_let_file_go(raftlog *log) {
 static int open_file(raftlog *log, const char *path) {
     if (log->path && !strcmp(log->path, path)) return 0;
     parts_let_file_go(log);
-    char *place = parts_joined(log->folder, path);
-    if (!place) return ENOMEM;
-    log->file = open(place, O_RDWR | O_CLOEXEC);
+    const char *name;
+    int in = parts_folder_of(log, path, &name);
+    if (in < 0) return errno;
+    log->file = openat(in, name, O_RDWR | O_NOFOLLOW | O_CLOEXEC);
     int error = log->file < 0 ? errno : 0;
-    free(place);
     if (!error) heap_take_up(&log->behind, &log->heap, log->file);
     if (!error && !(log->path = strdup(path))) error = ENOMEM;
     return error;
@@ -156,53 +107,64 @@ static int cut_file(raftlog *log, const char *path, uint64_t size) {
 
 static int write_file(raftlog *log, const uint8_t *bytes, size_t len, uint64_t at) {
     parts_add(&log->counts.bytes, len);
+    parts_add(&log->counts.writes, 1);
     heap_before_write(&log->behind, at, len);
     return write_at(log->file, bytes, len, at);
 }
 
-static uint64_t now_ns(void) {
+uint64_t parts_now_ns(void) {
     struct timespec t;
     clock_gettime(CLOCK_MONOTONIC, &t);
     return (uint64_t)t.tv_sec * 1000000000u + (uint64_t)t.tv_nsec;
 }
 
+static void count_sync(struct parts_counts *counts, uint64_t ns) {
+    uint64_t microseconds = ns / 1000;
+    int class = microseconds ? 64 - __builtin_clzll(microseconds) : 0;
+    parts_add(&counts->syncs, 1);
+    parts_add(&counts->sync_ns, ns);
+    parts_raise(&counts->longest_sync_ns, ns);
+    parts_add(&counts->sync_times[class < RAFTLOG_TIMES ? class : RAFTLOG_TIMES - 1], 1);
+}
+
 static int sync_file(raftlog *log) {
-    uint64_t began = now_ns();
+    uint64_t began = parts_now_ns();
     int error = fdatasync(log->file) ? errno : 0;
-    parts_add(&log->counts.syncs, 1);
-    parts_add(&log->counts.sync_ns, now_ns() - began);
+    struct stat found;
+    /* A file that another program deleted is lost, although the system syncs it. */
+    if (!error && !fstat(log->file, &found) && !found.st_nlink) error = ESTALE;
+    count_sync(&log->counts, parts_now_ns() - began);
     if (!error) heap_synced(&log->behind);
     return error;
 }
 
-/* Whether a file can come to a place: nothing stands there, or a plain file, which was read. */
-static int look_at(const char *place) {
-    struct stat found;
-    if (lstat(place, &found)) return errno == ENOENT ? 0 : errno;
-    return S_ISREG(found.st_mode) && found.st_nlink == 1 ? 0 : EEXIST;
+static bool is_reserved(const char *name) { return strstr(name, ".reserved"); }
+
+/* Counts an order on names that was carried out. One that takes the place of a file adds none. */
+static void count_names(struct parts_counts *counts, int kind, const char *last, bool had_place) {
+    bool is_next = kind != DELETE && !is_reserved(last);
+    if (is_next) parts_add(&counts->next_files, 1);
+    if (is_next && kind == RENAME) parts_add(&counts->recycled_files, 1);
+    if (kind == DELETE) parts_add(&counts->deleted_files, 1);
+    int more = (kind == CREATE) - (kind == DELETE) - (had_place && kind != DELETE);
+    parts_add(&counts->files, (uint64_t)(int64_t)more);
 }
 
-/* Carries out what is done to names: their folders are synced, so that a crash leaves the new names. */
+/* Carries out what is done to names. */
 static int order_names(raftlog *log, int kind, const char *path, const char *to) {
     parts_let_file_go(log);
-    char *place = parts_joined(log->folder, path), *other = parts_joined(log->folder, to);
-    int error = !place || !other ? ENOMEM : 0, fd;
-    if (!error && (kind == CREATE || kind == RENAME)) error = look_at(kind == CREATE ? place : other);
-    if (!error && kind == CREATE) {
-        fd = open(place, O_RDWR | O_CREAT | O_CLOEXEC, 0666);
-        if (fd < 0) error = errno;
-        else close(fd);
-        if (!error) error = parts_sync_name(place);
-    } else if (!error && kind == DELETE) {
-        error = unlink(place) ? errno : parts_sync_name(place);
-    } else if (!error && kind == RENAME) {
-        error = rename(place, other) ? errno : parts_sync_name(other);
-        if (!error) error = parts_sync_name(place);
-    } else if (!error) {
-        error = parts_make_folders(place);
-    }
-    free(place);
-    free(other);
+    int error = parts_keep_lock(log);
+    if (error) return error;
+    if (kind == MAKE_FOLDER) return parts_make_below(log, path);
+    const char *name, *next;
+    int in = parts_folder_of(log, path, &name);
+    int other = in < 0 ? in : parts_folder_of(log, kind == RENAME ? to : path, &next);
+    if (other < 0) return errno;
+    bool had_place = parts_has_name(other, next);
+    if (kind == CREATE) error = parts_make_file(in, name);
+    else if (kind == DELETE) error = parts_delete_file(in, name);
+    else error = parts_rename_file(in, name, other, next);
+    if (!error) count_names(&log->counts, kind, next, had_place);
     return error;
 }
 
@@ -223,7 +185,7 @@ static const char *text_of(char *room, const uint8_t *bytes, size_t len) {
 
 static int carry_out(raftlog *log, const struct order *order, const char *path) {
     if (order->kind < WRITE) {
-        char to[PATH_ROOM];
+        char to[PARTS_PATH_ROOM];
         if (order->len >= sizeof to) return EINVAL;
         return order_names(log, order->kind, path, text_of(to, order->bytes, order->len));
     }
@@ -252,19 +214,30 @@ void parts_break(raftlog *log, const char *why) {
              "%.300s; the log has failed: close it, and open its folder again", why);
 }
 
+/* What the system's error says here, if that is more than its own text. */
+static const char *cause_of(const raftlog *log, int error) {
+    struct stat found;
+    bool is_missing = error == ENOENT || error == ESTALE;
+    if (is_missing && !fstat(log->root, &found) && !found.st_nlink) return "the folder was removed";
+    if (error == ESTALE) return "another program deleted it";
+    if (error == EBUSY) return "LOCK was replaced, and another process has the folder";
+    if (error == ELOOP) return "it is a link, and links are not followed";
+    return strerror(error);
+}
+
 static void break_at(raftlog *log, const char *doing, const char *path, int error) {
     char why[300];
-    snprintf(why, sizeof why, "%s %.200s: %s", doing, path, strerror(error));
+    snprintf(why, sizeof why, "%s %.100s: %s, in %.140s", doing, path, cause_of(log, error), log->folder);
     parts_break(log, why);
 }
 
 /* Reads the order at a place, and goes behind it: false where there is none. */
-static bool read_order(const raftlog *log, size_t *place, struct order *order) {
+static inline bool read_order(const raftlog *log, size_t *place, struct order *order) {
     const uint8_t *at = log->orders + *place;
     size_t left = log->given - *place;
     if (left < HEAD) return false;
     uint64_t first = parts_number(at + 9), second = parts_number(at + 17);
-    if (first >= PATH_ROOM || left - HEAD < first || left - HEAD - first < second) return false;
+    if (first >= PARTS_PATH_ROOM || left - HEAD < first || left - HEAD - first < second) return false;
     *order = (struct order){*at, parts_number(at + 1), at + HEAD, at + HEAD + first, first, second};
     *place += HEAD + first + second;
     return true;
@@ -288,7 +261,7 @@ static void join(const raftlog *log, size_t *place, struct order *write) {
 
 static int obey_one(raftlog *log, size_t *place) {
     struct order order;
-    char room[PATH_ROOM];
+    char room[PARTS_PATH_ROOM];
     if (!read_order(log, place, &order)) return EINVAL;
     if (order.kind == WRITE && *place < log->given) join(log, place, &order);
     const char *path = text_of(room, order.path, order.path_len);
@@ -299,7 +272,7 @@ static int obey_one(raftlog *log, size_t *place) {
 
 static int obey_all(raftlog *log) {
     int error = *log->broken ? EIO : 0;
-    if (!error && heap_opening_lost(&log->heap)) {
+    if (!error && !log->heap.was_opened && heap_opening_lost(&log->heap)) {
         error = EIO;
         break_at(log, "reading", "a log file again", error);
     }

@@ -109,6 +109,18 @@ enum { PARTS_PLACES = 4096 };
 /* A bit of `reading`: no read begins any more. */
 enum { PARTS_CLOSING = 1 << 30 };
 
+/* Room for a path from the log's folder. */
+enum { PARTS_PATH_ROOM = 4096 };
+
+/* How the name of a copy ends that becomes a log file. */
+#define PARTS_MOVED ".moved"
+
+/* A folder that is held open, and its path from the log's. */
+struct parts_folder {
+    char *path;
+    int fd;
+};
+
 /* Who may look at what: what stands first is atomic; `lock` guards the handle and what follows on
  * it; what stands from the orders on is the leader's, who is one thread at a time. */
 struct raftlog {
@@ -118,6 +130,9 @@ struct raftlog {
     _Atomic uint64_t lost;                 /* the round whose orders failed; none: UINT64_MAX */
     struct parts_counts {
         _Atomic uint64_t changes, batches, synced_changes, largest_round, syncs, bytes, sync_ns;
+        _Atomic uint64_t writes, longest_sync_ns, sync_times[RAFTLOG_TIMES];
+        _Atomic uint64_t next_files, recycled_files, deleted_files, files;
+        _Atomic uint64_t purges, purge_ns, longest_purge_ns;
     } counts;
     pthread_mutex_t lock;
     raft_c_handle handle; /* of a log, from its opening to its close */
@@ -134,8 +149,12 @@ struct raftlog {
     struct heap_file behind; /* the open file, for its block */
     raftlog_progress *watch; /* of the opening; NULL: nobody is told */
     void *watch_with;
-    char *folder;     /* NULL: in memory */
-    int held;         /* the file of the folder's lock */
+    char *folder;     /* its path, from the root on, for texts; NULL: in memory */
+    struct parts_folder *folders; /* the log's own first, then those below that hold its files */
+    size_t folder_count, folder_room;
+    int root, held;   /* descriptors of the folder itself and of LOCK, both locked */
+    unsigned forks;   /* `parts_forks` when the log was opened */
+    struct raftlog *next_open, **at_open; /* of the logs that are open */
     char broken[400]; /* the order that failed, and why: nothing is changed any more */
     uint64_t touched[PARTS_PLACES]; /* by `lock`: the last round that changed a group of a place */
 };
@@ -158,9 +177,43 @@ void parts_put_text(const char *from, char *text, size_t room);
 char *parts_joined(const char *folder, const char *name);
 
 /* These answer 0, or an error of the system's. */
-int parts_sync(const char *path);
 int parts_sync_name(const char *path);
 int parts_make_folders(const char *path);
+
+/* The same of names in folders that are held. Each change of a name is synced, so that a crash leaves it. */
+int parts_make_below(raftlog *log, const char *path);
+int parts_make_file(int in, const char *name);
+int parts_delete_file(int in, const char *name);
+int parts_rename_file(int in, const char *name, int other, const char *next);
+bool parts_has_name(int in, const char *name);
+
+/* Holds a folder. The descriptor is the log's after 0, else it is closed. */
+int parts_hold(raftlog *log, const char *path, size_t len, int fd);
+/* The descriptor of the folder that holds the last name of a path from the log's. One that isn't held is opened, and no link
+ * is followed: -1 and `errno`, ELOOP for a link. */
+int parts_folder_of(raftlog *log, const char *path, const char **name);
+void parts_let_folders_go(raftlog *log);
+
+/* Locks LOCK and the folder: 0, EWOULDBLOCK if another process has it, EILSEQ for a LOCK that is no file. */
+int parts_lock(raftlog *log);
+/* Before a name is changed: whether LOCK is still the file that is locked. EBUSY if another process has the next one. */
+int parts_keep_lock(raftlog *log);
+void parts_unlock(raftlog *log);
+/* Who has the folder open, as far as the system says. */
+void parts_tell_holder(const raftlog *log, char *text, size_t room);
+
+/* How often this process was forked since a log was first open in it or in a parent. */
+extern atomic_uint parts_forks;
+static inline bool parts_is_forked(const raftlog *log) {
+    return log->forks != atomic_load_explicit(&parts_forks, memory_order_relaxed);
+}
+extern const char parts_forked_text[];
+/* From here on calls on the log fail in a child that is forked, and the child doesn't keep the lock. */
+void parts_add_open(raftlog *log);
+void parts_remove_open(raftlog *log);
+/* A fork waits between these two, while a descriptor is locked and noted. */
+void parts_pause_forks(void);
+void parts_resume_forks(void);
 
 /* Around a call of the proved part: its orders and its blocks are this log's. */
 void parts_enter(raftlog *log);
@@ -189,8 +242,10 @@ int parts_take_turn(raftlog *log, struct parts_change *mine);
  * close was first: then the log isn't looked at any more. */
 bool parts_close(raftlog *log, int *code);
 
-/* Begins a read: false where the log is being closed. */
+/* Begins a read: false where the log is being closed, and in a child that was forked. */
 bool parts_begin_read(raftlog *log);
+/* The failure of a read that didn't begin. */
+int parts_fail_closed(raftlog *log);
 /* Waits until a round is over: whether what was read of it stands. */
 bool parts_wait_for(raftlog *log, uint64_t round);
 /* Ends a read, after which it doesn't look at the log. */
@@ -201,6 +256,13 @@ static inline void parts_add(_Atomic uint64_t *count, uint64_t more) {
     uint64_t sum = atomic_load_explicit(count, memory_order_relaxed) + more;
     atomic_store_explicit(count, sum, memory_order_release);
 }
+
+static inline void parts_raise(_Atomic uint64_t *greatest, uint64_t number) {
+    if (atomic_load_explicit(greatest, memory_order_relaxed) < number)
+        atomic_store_explicit(greatest, number, memory_order_release);
+}
+
+uint64_t parts_now_ns(void);
 
 /* The last round that changed a group, and may not be over. Under `lock`. */
 static inline uint64_t *parts_touched(raftlog *log, uint64_t group) {
@@ -223,5 +285,9 @@ int parts_fail(const raftlog *log, int code, char *text);
 
 /* Makes and locks the folder, and hands what stands in it over: a code, for a failure a text. */
 int parts_find(raftlog *log, char *text, size_t room);
+bool parts_is_log_name(const char *name);
+
+/* Why an opening found corruption: the first damage of a log file, and its place. */
+void parts_tell_damage(const raftlog *log, char *text, size_t room);
 
 #endif

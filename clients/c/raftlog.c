@@ -44,11 +44,13 @@ char *parts_answered_text(raftlog *log) {
 /* ---- opening and closing */
 
 static void let_go(raftlog *log) {
+    parts_remove_open(log);
     heap_end(&log->heap);
     parts_let_file_go(log);
     if (log->handle.at) raft_c_free(&log->handle);
     free(log->orders);
-    if (log->held >= 0) close(log->held);
+    parts_unlock(log);
+    parts_let_folders_go(log);
     for (size_t i = 0; i < log->cut_count; i++) free((char *)log->cuts[i].path);
     free(log->cuts);
     pthread_mutex_destroy(&log->lock);
@@ -59,7 +61,8 @@ static void let_go(raftlog *log) {
 static raftlog *new_log(void) {
     raftlog *log = calloc(1, sizeof *log);
     if (!log) return NULL;
-    log->held = log->file = -1;
+    log->root = log->held = log->file = -1;
+    log->forks = atomic_load(&parts_forks);
     atomic_init(&log->lost, UINT64_MAX);
     if (!pthread_mutex_init(&log->lock, NULL)) return log;
     free(log);
@@ -77,10 +80,18 @@ static int open_found(raftlog *log, const char *settings, char *text, size_t roo
     parts_leave();
     log->is_opening = false;
     if (!code) return RAFTLOG_OK;
+    if (code == RAFTLOG_CORRUPTION && log->folder && room) return parts_tell_damage(log, text, room), code;
     char *said = *log->broken ? NULL : parts_answered_text(log);
     parts_put_text(said ? said : *log->broken ? log->broken : raftlog_code_text(code), text, room);
     free(said);
     return code;
+}
+
+/* What the opening itself did isn't counted; how many files there are is. */
+static void forget_opening(struct parts_counts *counts) {
+    uint64_t files = atomic_load(&counts->files);
+    memset(counts, 0, sizeof *counts);
+    atomic_store(&counts->files, files);
 }
 
 static int open_log(const char *folder, const char *settings, raftlog_progress *watch, void *with,
@@ -89,18 +100,20 @@ static int open_log(const char *folder, const char *settings, raftlog_progress *
     if (!text) room = 0;
     if (room) text[0] = 0;
     raftlog *log = new_log();
-    if (!log) return RAFTLOG_NO_MEMORY;
+    if (!log) return parts_put_text(raftlog_code_text(RAFTLOG_NO_MEMORY), text, room), RAFTLOG_NO_MEMORY;
     log->watch = watch;
     log->watch_with = with;
     int code =
         folder && !(log->folder = strdup(folder)) ? RAFTLOG_NO_MEMORY : raft_c_begin(&log->handle);
-    if (code) return let_go(log), code;
+    if (code) return parts_put_text(raftlog_code_text(code), text, room), let_go(log), code;
+    int was;
+    pthread_setcancelstate(PTHREAD_CANCEL_DISABLE, &was);
+    parts_add_open(log);
     if (folder) code = parts_find(log, text, room);
     if (!code) code = open_found(log, settings, text, room);
+    pthread_setcancelstate(was, NULL);
     if (code) return let_go(log), code;
-    atomic_store(&log->counts.syncs, 0);
-    atomic_store(&log->counts.bytes, 0);
-    atomic_store(&log->counts.sync_ns, 0);
+    forget_opening(&log->counts);
     /* A failure of a log that was closed, and had this address. */
     parts_fail(log, RAFTLOG_OK, NULL);
     *out = log;
@@ -134,26 +147,55 @@ size_t raftlog_cuts(raftlog *log, raftlog_cut *cuts, size_t room) {
     return log->cut_count;
 }
 
+/* In a child that was forked: frees memory alone. Nothing is freed if a thread of the parent was in a call on the log, since
+ * what that call had in hand may be half done. */
+static int close_forked(raftlog *log) {
+    bool was_in_call = atomic_load(&log->newest) || atomic_load(&log->reading);
+    int code = parts_fail(log, RAFTLOG_FAILED, strdup(parts_forked_text));
+    if (log->folder_count) log->folders[0].fd = log->root;
+    if (!was_in_call) let_go(log);
+    return code;
+}
+
 int raftlog_close(raftlog *log) {
     int code = RAFTLOG_OK;
+    if (log && parts_is_forked(log)) return close_forked(log);
     if (log && parts_close(log, &code)) let_go(log);
     return code;
 }
 
-int raftlog_stats(raftlog *log, raftlog_counts *counts) {
+/* In this turn, so that no part is greater than its whole. */
+static void copy_counts(const raftlog *log, raftlog_counts *to) {
+    const struct parts_counts *from = &log->counts;
+    for (int i = 0; i < RAFTLOG_TIMES; i++) to->sync_times[i] = from->sync_times[i];
+    to->longest_sync_ns = from->longest_sync_ns;
+    to->longest_purge_ns = from->longest_purge_ns;
+    to->purge_ns = from->purge_ns;
+    to->purges = from->purges;
+    to->recycled_files = from->recycled_files;
+    to->next_files = from->next_files;
+    to->deleted_files = from->deleted_files;
+    to->files = from->files;
+    to->sync_ns = from->sync_ns;
+    to->batches = from->batches;
+    to->synced_changes = from->synced_changes;
+    to->largest_round = from->largest_round;
+    to->changes = from->changes;
+    to->rounds = log->done;
+    to->syncs = from->syncs;
+    to->writes = from->writes;
+    to->bytes = from->bytes;
+}
+
+int raftlog_stats(raftlog *log, raftlog_counts *counts, size_t size) {
+    raftlog_counts all = {0};
     if (!log) return RAFTLOG_INVALID;
-    if (!counts) return parts_fail(log, RAFTLOG_INVALID, NULL);
-    if (!parts_begin_read(log)) return parts_fail(log, RAFTLOG_FAILED, NULL);
-    /* In this turn, so that no part is greater than its whole. */
-    counts->sync_ns = log->counts.sync_ns;
-    counts->batches = log->counts.batches;
-    counts->synced_changes = log->counts.synced_changes;
-    counts->largest_round = log->counts.largest_round;
-    counts->changes = log->counts.changes;
-    counts->rounds = log->done;
-    counts->syncs = log->counts.syncs;
-    counts->bytes = log->counts.bytes;
+    if (!counts || !size) return parts_fail(log, RAFTLOG_INVALID, NULL);
+    if (!parts_begin_read(log)) return parts_fail_closed(log);
+    copy_counts(log, &all);
     parts_end_read(log);
+    memcpy(counts, &all, size < sizeof all ? size : sizeof all);
+    if (size > sizeof all) memset((uint8_t *)counts + sizeof all, 0, size - sizeof all);
     return RAFTLOG_OK;
 }
 
@@ -259,7 +301,7 @@ int raftlog_purge_expired_files(raftlog *log, raftlog_bytes *groups) {
 
 /* Begins a read, with the lock held where it answers 0. */
 static int begin(raftlog *log) {
-    if (!parts_begin_read(log)) return parts_fail(log, RAFTLOG_FAILED, NULL);
+    if (!parts_begin_read(log)) return parts_fail_closed(log);
     pthread_mutex_lock(&log->lock);
     return RAFTLOG_OK;
 }
@@ -272,14 +314,22 @@ static int begin_bytes(raftlog *log, raftlog_bytes *bytes) {
     return begin(log);
 }
 
+static char *corruption_text(const raftlog *log) {
+    char *text;
+    const char *said = "corruption: bytes of a log file can't be read, or were changed by another program, in";
+    return asprintf(&text, "%s %s", said, log->folder) < 0 ? NULL : text;
+}
+
 /* Ends a read that saw nothing of a later round than this one. The log isn't looked at after. */
 static int end(raftlog *log, int code, uint64_t round) {
     bool fails = code != RAFTLOG_OK && code != RAFTLOG_ABSENT;
-    char *text = fails && code != RAFTLOG_NO_MEMORY ? parts_answered_text(log) : NULL;
+    char *text = NULL;
+    if (code == RAFTLOG_CORRUPTION && log->folder) text = corruption_text(log);
+    else if (fails && code != RAFTLOG_NO_MEMORY) text = parts_answered_text(log);
     pthread_mutex_unlock(&log->lock);
     if (!parts_wait_for(log, round) || code == RAFTLOG_FAILED) {
         free(text);
-        text = strdup(log->broken);
+        text = *log->broken ? strdup(log->broken) : NULL;
         code = RAFTLOG_FAILED;
     }
     if (code != RAFTLOG_OK && code != RAFTLOG_ABSENT) parts_fail(log, code, text);

@@ -19,6 +19,7 @@ enum { WAITS, LEADS, IS_ANSWERED };
 
 /* Whoever comes behind this finds a closed log. */
 static struct parts_change closed;
+static const char closed_text[] = "the log is closed";
 
 /* The caller of a change that was answered may be gone, and a log that no read is in any more
  * freed. So a wake-up may go to an address that is another's by then, who looks again, as each one
@@ -268,6 +269,12 @@ static bool carry_out_one(raftlog *log, struct parts_change *change) {
     return true;
 }
 
+static void count_purge(struct parts_counts *counts, uint64_t ns) {
+    parts_add(&counts->purges, 1);
+    parts_add(&counts->purge_ns, ns);
+    parts_raise(&counts->longest_purge_ns, ns);
+}
+
 /* What a purge of the Append queue moves is moved in short calls before it, so that reads come between
  * them: the purge itself finds little. It ends where one is refused. */
 static bool move_ahead(raftlog *log, struct parts_change *purge) {
@@ -286,14 +293,21 @@ static bool move_ahead(raftlog *log, struct parts_change *purge) {
     return is_done;
 }
 
+static bool carry_out_purge(raftlog *log, struct parts_change *purge) {
+    uint64_t began = parts_now_ns();
+    bool is_done = purge->kind != PARTS_REWRITE_APPEND || move_ahead(log, purge);
+    if (is_done && !purge->code) is_done = carry_out_one(log, purge);
+    count_purge(&log->counts, parts_now_ns() - began);
+    return is_done;
+}
+
 static inline void carry_out(raftlog *log, struct round *round) {
     struct parts_change *first = round->first;
     if (*log->broken) {
         for (struct parts_change *at = first; at; at = after(round, at))
             fail(at, RAFTLOG_FAILED, log->broken);
     } else if (!first->older || is_alone(first)) {
-        bool is_done = first->kind != PARTS_REWRITE_APPEND || move_ahead(log, first);
-        if (is_done && !first->code) is_done = carry_out_one(log, first);
+        bool is_done = parts_is_purge(first) ? carry_out_purge(log, first) : carry_out_one(log, first);
         note_done(round, first);
         if (!is_done) give_up(log, round);
     } else {
@@ -366,12 +380,19 @@ static void lead(raftlog *log, struct parts_change *mine) {
 /* Waits for the lead: false where another leader answered. */
 static inline bool comes_to_lead(raftlog *log, struct parts_change *mine) {
     struct parts_change *older = put_in_queue(log, mine);
-    if (older == &closed) return fail(mine, RAFTLOG_FAILED, "the log is closed"), false;
+    if (older == &closed) return fail(mine, RAFTLOG_FAILED, closed_text), false;
     return !older || await(mine) == LEADS;
 }
 
+/* A thread that is cancelled ends here, before its change is in the queue, or after its call: nobody else could go on with
+ * a round whose leader has ended. */
 int parts_take_turn(raftlog *log, struct parts_change *mine) {
+    if (parts_is_forked(log)) return fail(mine, RAFTLOG_FAILED, parts_forked_text), mine->code;
+    int was;
+    pthread_testcancel();
+    pthread_setcancelstate(PTHREAD_CANCEL_DISABLE, &was);
     if (comes_to_lead(log, mine)) lead(log, mine);
+    pthread_setcancelstate(was, NULL);
     return mine->code;
 }
 
@@ -381,7 +402,12 @@ void parts_end_read(raftlog *log) {
     if (atomic_fetch_sub(&log->reading, 1) == PARTS_CLOSING + 1) wake(&log->reading, 1);
 }
 
+int parts_fail_closed(raftlog *log) {
+    return parts_fail(log, RAFTLOG_FAILED, strdup(parts_is_forked(log) ? parts_forked_text : closed_text));
+}
+
 bool parts_begin_read(raftlog *log) {
+    if (parts_is_forked(log)) return false;
     if (!(atomic_fetch_add(&log->reading, 1) & PARTS_CLOSING)) return true;
     parts_end_read(log);
     return false;
@@ -400,6 +426,8 @@ bool parts_wait_for(raftlog *log, uint64_t round) {
 
 bool parts_close(raftlog *log, int *code) {
     struct parts_change mine = {.kind = PARTS_CLOSE};
+    int was;
+    pthread_setcancelstate(PTHREAD_CANCEL_DISABLE, &was);
     atomic_fetch_or(&log->reading, PARTS_CLOSING);
     bool leads = comes_to_lead(log, &mine);
     if (leads) {
@@ -410,10 +438,11 @@ bool parts_close(raftlog *log, int *code) {
         struct parts_change *late = atomic_exchange(&log->newest, &closed), *older;
         for (; late != &mine; late = older) {
             older = late->older;
-            fail(late, RAFTLOG_FAILED, "the log is closed");
+            fail(late, RAFTLOG_FAILED, closed_text);
             tell(late, IS_ANSWERED);
         }
     }
+    pthread_setcancelstate(was, NULL);
     free(mine.text);
     *code = mine.code;
     return leads;

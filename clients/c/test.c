@@ -284,6 +284,46 @@ static void calls(raftlog *log) {
     short_purges(log);
 }
 
+static uint64_t files_in(const char *folder) {
+    char command[400];
+    unsigned long count = 0;
+    snprintf(command, sizeof command, "find '%s' -name '0*.r*' | wc -l", folder);
+    FILE *found = popen(command, "r");
+    CHECK(found && fscanf(found, "%lu", &count) == 1 && !pclose(found));
+    return count;
+}
+
+/* What a log counts, for programs that know fewer numbers and for those that know more */
+static void counts(const char *folder) {
+    struct { raftlog_counts known; uint64_t later[2]; } longer;
+    uint64_t shorter[9], classes = 0, longest = 0;
+    char place[400], text[300];
+    raftlog *log;
+    snprintf(place, sizeof place, "%s/counts", folder);
+    CHECK(!raftlog_open(place, "target-file-size = \"64KB\"", &log, text, sizeof text));
+    memset(&longer, 7, sizeof longer);
+    CHECK(!raftlog_stats(log, &longer.known, sizeof longer) && longer.known.syncs == 0 && longer.known.next_files == 0);
+    CHECK(longer.later[0] == 0 && longer.later[1] == 0 && longer.known.files == files_in(place));
+    struct aside first = {log, 0};
+    put_aside(&first);
+    CHECK(!raftlog_sync(log) && !raftlog_must_rewrite_append_queue(log, NULL));
+    CHECK(!raftlog_stats(log, &longer.known, sizeof longer));
+    raftlog_counts *known = &longer.known;
+    for (int i = 0; i < RAFTLOG_TIMES; i++) classes += known->sync_times[i];
+    CHECK(classes == known->syncs && known->longest_sync_ns <= known->sync_ns && known->sync_ns && known->longest_sync_ns);
+    CHECK(known->batches == 500 && known->bytes > 1000000 && known->writes >= 500 && known->next_files > 8);
+    CHECK(known->purges == 1 && known->longest_purge_ns == known->purge_ns && known->purge_ns);
+    CHECK(known->files == files_in(place) && known->recycled_files <= known->next_files);
+    memset(shorter, 7, sizeof shorter);
+    memset(&longest, 7, sizeof longest);
+    CHECK(!raftlog_stats(log, (raftlog_counts *)shorter, 8 * sizeof *shorter) && shorter[7] == 500 && shorter[8] == longest);
+    CHECK(raftlog_stats(log, known, 0) == RAFTLOG_INVALID && raftlog_stats(NULL, known, sizeof *known) == RAFTLOG_INVALID);
+    for (uint32_t i = 0; i < 2; i++) put_aside(&first);
+    CHECK(!raftlog_purge_expired_files(log, NULL) && !raftlog_must_rewrite_append_queue(log, NULL));
+    CHECK(!raftlog_stats(log, known, sizeof *known) && known->purges == 3 && known->files == files_in(place));
+    CHECK(known->recycled_files + known->deleted_files > 0 && !raftlog_close(log));
+}
+
 static void *put_many(void *of) {
     raftlog *log = of;
     raftlog_batch *batch = raftlog_batch_new();
@@ -371,6 +411,7 @@ int main(int argc, char **argv) {
     CHECK(raftlog_open("/proc/none/x", NULL, &log, text, sizeof text) == RAFTLOG_FOLDER);
     CHECK(raftlog_open(NULL, NULL, &log, NULL, 0) == RAFTLOG_INVALID && raftlog_close(NULL) == 0);
     cuts(argv[1]);
+    counts(argv[1]);
     puts("ok");
     return 0;
 }

@@ -140,7 +140,7 @@ static int read_own(struct writer *w, uint64_t i) {
     IS(raftlog_fetch_entries(w->log, w->group, w->first, i + 1, 0, &w->bytes), RAFTLOG_OK);
     IS(raftlog_fetch_entries(w->log, w->group, w->first, i + 2, 0, &w->bytes), RAFTLOG_NO_ENTRY);
     IS(raftlog_groups(w->log, &w->bytes), RAFTLOG_OK);
-    CHECK(!raftlog_stats(w->log, &counts) && counts.synced_changes <= counts.changes);
+    CHECK(!raftlog_stats(w->log, &counts, sizeof counts) && counts.synced_changes <= counts.changes);
     return RAFTLOG_OK;
 }
 
@@ -216,7 +216,7 @@ static void storm(const char *folder, uint64_t threads, uint64_t turns, bool mix
     raftlog_counts counts;
     raftlog *log = open_at(folder);
     run(log, threads, turns, mixes, w, answered);
-    CHECK(!raftlog_stats(log, &counts) && counts.rounds <= counts.changes
+    CHECK(!raftlog_stats(log, &counts, sizeof counts) && counts.rounds <= counts.changes
           && counts.largest_round <= threads);
     printf("%2d threads: %llu changes in %llu rounds, at most %llu; %llu synced by %llu syncs\n",
            (int)threads, (unsigned long long)counts.changes, (unsigned long long)counts.rounds,
@@ -354,7 +354,7 @@ static void close_behind_sync(raftlog *log, struct writer *w, uint64_t threads) 
     faults_hold_syncs(true);
     faults_await_sync();
     CHECK(!pthread_create(&closer, NULL, close_it, log));
-    while (raftlog_stats(log, &counts) != RAFTLOG_FAILED) usleep(1000);
+    while (raftlog_stats(log, &counts, sizeof counts) != RAFTLOG_FAILED) usleep(1000);
     begin(w, 1, threads);
     for (uint64_t t = 0; t < threads; t++)
         CHECK(faults_await_thread(&w[t].tid, &w[t].has_ended));

@@ -132,6 +132,36 @@ int open(const char *path, int flags, ...) {
     return remember(fd, path, is_new);
 }
 
+// The path of a name in a folder that is open.
+static const char *path_at(int in, const char *name, char *full) {
+    char link[64];
+    if (in == AT_FDCWD || *name == '/')
+        return name;
+    sprintf(link, "/proc/self/fd/%d", in);
+    ssize_t len = readlink(link, full, PATH_MAX - 1);
+    full[len < 0 ? 0 : len] = 0;
+    strncat(full, "/", PATH_MAX - strlen(full) - 1);
+    strncat(full, name, PATH_MAX - strlen(full) - 1);
+    return full;
+}
+
+int openat(int in, const char *name, int flags, ...) {
+    char full[PATH_MAX];
+    va_list rest;
+    va_start(rest, flags);
+    int mode = flags & O_CREAT ? va_arg(rest, int) : 0;
+    va_end(rest);
+    if (flags & O_CREAT) {
+        die_if_last();
+        if (fails("open"))
+            return -1;
+    }
+    const char *path = path_at(in, name, full);
+    int is_new = flags & O_CREAT && access(path, F_OK) != 0;
+    int fd = REAL("openat", int (*)(int, const char *, int, ...))(in, name, flags, mode);
+    return remember(fd, path, is_new);
+}
+
 // The path of a name that may not stand yet: below the folder, or null.
 static const char *name_below(const char *path, char *full) {
     char folder[PATH_MAX];
@@ -182,6 +212,23 @@ int rename(const char *from, const char *to) {
         follow(old, new);
     }
     return status;
+}
+
+int unlinkat(int in, const char *name, int flags) {
+    char full[PATH_MAX];
+    if (!flags)
+        return unlink(path_at(in, name, full));
+    return REAL("unlinkat", int (*)(int, const char *, int))(in, name, flags);
+}
+
+int renameat(int in, const char *from, int other, const char *to) {
+    char one[PATH_MAX], two[PATH_MAX];
+    return rename(path_at(in, from, one), path_at(other, to, two));
+}
+
+int mkdirat(int in, const char *name, mode_t mode) {
+    char full[PATH_MAX];
+    return mkdir(path_at(in, name, full), mode);
 }
 
 int close(int fd) {

@@ -171,13 +171,14 @@ func runNode(s settings, store storage.Store, logger *log.Logger) error {
 	n.SetTransport(carrier)
 	logger.Printf("answers at http://%s, store %s in %s, %d groups", s.http, s.store, s.folder,
 		s.groups)
-	return answer(s, n, listener)
+	counts, _ := store.(server.Log)
+	return answer(s, n, counts, listener)
 }
 
 // answer answers users until a signal comes, or the store fails.
-func answer(s settings, n *node.Node, listener net.Listener) error {
+func answer(s settings, n *node.Node, counts server.Log, listener net.Listener) error {
 	users := &http.Server{
-		Handler:           &server.Server{Node: n, Groups: s.groups, Timeout: s.timeout},
+		Handler:           &server.Server{Node: n, Log: counts, Groups: s.groups, Timeout: s.timeout},
 		ReadHeaderTimeout: s.timeout,
 	}
 	go users.Serve(listener)

@@ -1,11 +1,9 @@
-// Package raftlog is a log for many Raft groups in a folder, whose engine is proved in Rattle. It calls libraftlog.a,
-// which `make -C clients/c` builds.
+// Package raftlog is a log for many Raft groups in a folder, whose engine is proved in Rattle. It calls libraftlog:
+// clients/c/build/libraftlog.a of the checkout, or with the build tag raftlog_installed the installed one, by pkg-config.
 package raftlog
 
-// #cgo CFLAGS: -I${SRCDIR}/../../c
-// #cgo LDFLAGS: ${SRCDIR}/../../c/build/libraftlog.a -lpthread -lm
 // #include <stdlib.h>
-// #include "raftlog.h"
+// #include <raftlog.h>
 //
 // // A failure's text is that of a thread, which a goroutine may leave after a call: so each call brings
 // // the text along, which is freed by free.
@@ -286,7 +284,23 @@ type Stats struct {
 	Bytes         uint64        // that were written to log files
 	SyncTime      time.Duration // that these syncs took
 	Batches       uint64        // of the changes, writes that were done
+	Writes        uint64        // calls of the system that wrote these bytes
+	LongestSync   time.Duration
+	SyncTimes     [SyncClasses]uint64 // syncs by classes: those under SyncBound(i), and not under the one before
+	NextFiles     uint64              // that a queue went on to
+	RecycledFiles uint64              // of these, those that were dropped or reserved files before
+	DeletedFiles  uint64
+	Purges        uint64        // calls that were carried out, a short one too
+	PurgeTime     time.Duration // that these took, without their wait for a turn
+	LongestPurge  time.Duration
+	Files         uint64 // that the folder has now, reserved ones too; 0 in memory
 }
+
+// SyncClasses is how many classes of times Stats.SyncTimes has.
+const SyncClasses = C.RAFTLOG_TIMES
+
+// SyncBound is the time under which the syncs of a class and of those before it took; the last class has no bound.
+func SyncBound(class int) time.Duration { return time.Microsecond << class }
 
 // Stats tells what the log did.
 func (e *Engine) Stats() (Stats, error) {
@@ -296,14 +310,22 @@ func (e *Engine) Stats() (Stats, error) {
 	if e.log == nil {
 		return Stats{}, &Error{Failed, "the log is closed"}
 	}
-	if code := C.raftlog_stats(e.log, &counts); code != 0 {
+	if code := C.raftlog_stats(e.log, &counts, C.sizeof_raftlog_counts); code != 0 {
 		return Stats{}, &Error{Code(code), Code(code).String()}
 	}
-	return Stats{
+	stats := Stats{
 		Rounds: uint64(counts.rounds), Changes: uint64(counts.changes), SyncedChanges: uint64(counts.synced_changes),
 		LargestRound: uint64(counts.largest_round), Syncs: uint64(counts.syncs), Bytes: uint64(counts.bytes),
-		SyncTime: time.Duration(counts.sync_ns), Batches: uint64(counts.batches),
-	}, nil
+		SyncTime: time.Duration(counts.sync_ns), Batches: uint64(counts.batches), Writes: uint64(counts.writes),
+		LongestSync: time.Duration(counts.longest_sync_ns), NextFiles: uint64(counts.next_files),
+		RecycledFiles: uint64(counts.recycled_files), DeletedFiles: uint64(counts.deleted_files),
+		Purges: uint64(counts.purges), PurgeTime: time.Duration(counts.purge_ns),
+		LongestPurge: time.Duration(counts.longest_purge_ns), Files: uint64(counts.files),
+	}
+	for i, count := range counts.sync_times {
+		stats.SyncTimes[i] = uint64(count)
+	}
+	return stats, nil
 }
 
 // A Cut is what the opening cut off of a log file: so many bytes from an offset on, behind the last record that could be

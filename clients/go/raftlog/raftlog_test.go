@@ -218,7 +218,14 @@ func TestRounds(t *testing.T) {
 		stats, err := log.Stats()
 		must(t, err)
 		if stats.SyncedChanges != puts || stats.Batches != puts || stats.Syncs == 0 || stats.Bytes == 0 ||
-			stats.SyncTime == 0 {
+			stats.SyncTime == 0 || stats.Writes == 0 || stats.Files == 0 || stats.LongestSync > stats.SyncTime {
+			t.Fatal(stats)
+		}
+		classes := uint64(0)
+		for _, count := range stats.SyncTimes {
+			classes += count
+		}
+		if classes != stats.Syncs {
 			t.Fatal(stats)
 		}
 		if stats.LargestRound > 1 && stats.Rounds < stats.Changes {

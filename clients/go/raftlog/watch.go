@@ -1,7 +1,7 @@
 package raftlog
 
 // #include <stdlib.h>
-// #include "raftlog.h"
+// #include <raftlog.h>
 //
 // void raftlogTell(void *with, uint64_t done, uint64_t all);
 import "C"

@@ -265,7 +265,28 @@ pub struct Stats {
     pub sync_time: Duration,
     /// Of the changes, writes that were done.
     pub batches: u64,
+    /// Calls of the system that wrote these bytes.
+    pub writes: u64,
+    pub longest_sync: Duration,
+    /// Syncs by classes of their times: class `i` has those under `2^i` microseconds, and not under the bound of the one
+    /// before; the last one has no bound.
+    pub sync_times: [u64; SYNC_CLASSES],
+    /// Files that a queue went on to.
+    pub next_files: u64,
+    /// Of these, those that were dropped or reserved files before.
+    pub recycled_files: u64,
+    pub deleted_files: u64,
+    /// Calls of purges that were carried out, a short one too.
+    pub purges: u64,
+    /// How long these took, without their wait for a turn.
+    pub purge_time: Duration,
+    pub longest_purge: Duration,
+    /// Files that the folder has now, reserved ones too; 0 in memory.
+    pub files: u64,
 }
+
+/// How many classes of times `Stats::sync_times` has.
+pub const SYNC_CLASSES: usize = sys::RAFTLOG_TIMES;
 
 /// What an opening cut off of a log file, behind the last record that could be read.
 #[derive(Clone, Debug, PartialEq, Eq)]
@@ -429,7 +450,7 @@ impl Engine {
     /// What the log did so far.
     pub fn stats(&self) -> Result<Stats> {
         let mut counts = sys::raftlog_counts::default();
-        self.done(unsafe { sys::raftlog_stats(self.log, &mut counts) })?;
+        self.done(unsafe { sys::raftlog_stats(self.log, &mut counts, size_of::<sys::raftlog_counts>()) })?;
         Ok(Stats {
             rounds: counts.rounds,
             changes: counts.changes,
@@ -439,6 +460,16 @@ impl Engine {
             bytes: counts.bytes,
             sync_time: Duration::from_nanos(counts.sync_ns),
             batches: counts.batches,
+            writes: counts.writes,
+            longest_sync: Duration::from_nanos(counts.longest_sync_ns),
+            sync_times: counts.sync_times,
+            next_files: counts.next_files,
+            recycled_files: counts.recycled_files,
+            deleted_files: counts.deleted_files,
+            purges: counts.purges,
+            purge_time: Duration::from_nanos(counts.purge_ns),
+            longest_purge: Duration::from_nanos(counts.longest_purge_ns),
+            files: counts.files,
         })
     }
 

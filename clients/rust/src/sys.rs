@@ -31,7 +31,19 @@ pub struct raftlog_counts {
     pub bytes: u64,
     pub sync_ns: u64,
     pub batches: u64,
+    pub writes: u64,
+    pub longest_sync_ns: u64,
+    pub sync_times: [u64; RAFTLOG_TIMES],
+    pub next_files: u64,
+    pub recycled_files: u64,
+    pub deleted_files: u64,
+    pub purges: u64,
+    pub purge_ns: u64,
+    pub longest_purge_ns: u64,
+    pub files: u64,
 }
+
+pub const RAFTLOG_TIMES: usize = 24;
 
 #[repr(C)]
 pub struct raftlog_cut {
@@ -56,7 +68,7 @@ extern "C" {
     ) -> c_int;
     pub fn raftlog_open_memory(settings: *const c_char, out: *mut *mut raftlog, text: *mut c_char, room: usize) -> c_int;
     pub fn raftlog_close(log: *mut raftlog) -> c_int;
-    pub fn raftlog_stats(log: *mut raftlog, counts: *mut raftlog_counts) -> c_int;
+    pub fn raftlog_stats(log: *mut raftlog, counts: *mut raftlog_counts, size: usize) -> c_int;
     pub fn raftlog_cuts(log: *mut raftlog, cuts: *mut raftlog_cut, room: usize) -> usize;
     pub fn raftlog_survive_bus_errors() -> c_int;
     pub fn raftlog_expect_reads(log: *mut raftlog, at_random: bool) -> c_int;

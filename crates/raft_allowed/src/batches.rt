@@ -20,7 +20,7 @@ use raft_once::are_unfit;
 use raft_script::{Act, Op};
 use std::alloc::{AllocError, Global};
 
-/// The batches that an operation is to write, where these groups stand before it.
+/// The batches that an operation is to write, if these groups exist before it.
 pub(crate) fn batches_of<'a>(
     alloc: Global,
     groups: &[GroupImage],

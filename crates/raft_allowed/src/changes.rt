@@ -32,7 +32,7 @@ pub(crate) enum What<'a> {
     Number(u64),
 }
 
-/// The changes of acts, and none where one of them can't be done.
+/// The changes of acts; none if one of them cannot be done.
 pub(crate) fn changes_of_all<'a>(
     alloc: Global,
     acts: &'a [Act],
@@ -45,7 +45,7 @@ pub(crate) fn changes_of_all<'a>(
     }
 }
 
-/// The changes of acts, where each of them can be done.
+/// The changes of acts, if each of them can be done.
 pub(crate) fn changes_of<'a>(
     alloc: Global,
     acts: &'a [Act],
@@ -104,7 +104,7 @@ fn push_change<'a>(changes: &mut Vec<Change<'a>>, act: &'a Act) -> Result<bool, 
     }
 }
 
-/// The numbers of pairs go behind the other changes.
+/// The numbers of pairs follow the other changes.
 pub(crate) fn push_numbers<'a>(
     changes: &mut Vec<Change<'a>>,
     pairs: &[(u64, u64)],
@@ -118,7 +118,7 @@ pub(crate) fn push_numbers<'a>(
     Ok(())
 }
 
-/// The changes, and none where one of them is of a group's number, which no caller may change.
+/// The changes; none if one of them is of a group's number, which no caller may change.
 pub(crate) fn plain_part<'a>(changes: Vec<Change<'a>>) -> Vec<Change<'a>>
     ensures { batch_in result.items ≡ plain_part (batch_in changes.entry.items) }
 {

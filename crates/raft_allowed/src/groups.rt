@@ -71,7 +71,7 @@ pub(crate) fn is_of(image: &GroupImage, group: u64) -> bool
     group == image.group
 }
 
-/// A copy of one of the groups; where it isn't there it has nothing.
+/// A copy of one of the groups; a missing group has nothing.
 pub(crate) fn group_at(
     alloc: Global,
     groups: &[GroupImage],

@@ -13,7 +13,7 @@ use raft_log_engine::{GroupImage, Image};
 use raft_once::NUMBER_KEY;
 use std::alloc::{AllocError, Global};
 
-/// An image after a batch, and whether what stood before takes the batch.
+/// An image after a batch, and whether the image before accepts the batch.
 #[derive(Drop)]
 pub(crate) struct Applied {
     pub image: Image,

@@ -12,8 +12,8 @@ use raft_env::FileSystem;
 use raft_log_engine::laws::crash_leaves_contents;
 use raft_memory::MemoryFileSystem;
 
-/// What a trial finds is among what may be left after its operations and their outcomes, so that
-/// `allowed` answers an image of the same contents: of a trial whose first opening was answered,
+/// A trial finds something that may be left after its operations and their outcomes, so `allowed`
+/// returns an image of the same contents. That holds for a trial whose first opening succeeded,
 /// with a crash whose damage is detectable.
 pub fn a_trial_finds_what_may_be_left()
     ensures found { (config : Config) (ops : List Op) (stop : Option ℕ) (choices : List Choice)
@@ -24,8 +24,8 @@ pub fn a_trial_finds_what_may_be_left()
     crash_leaves_contents();
 }
 
-/// So is what the opening of `trial_twice` showed in which the second crash came (`second`), and,
-/// where the damage of that crash is detectable too, what the opening after it finds (`found`).
+/// The same holds for the opening of `trial_twice` in which the second crash came (`second`), and,
+/// if the damage of that crash is detectable too, for the opening after it (`found`).
 pub fn a_second_crash_leaves_no_more()
     ensures second { (config : Config) (ops : List Op) (stop : Option ℕ) (choices : List Choice)
         (again : Option ℕ) (more : List Choice) (t : Trial) (is : IsTrialTwiceOf

@@ -19,16 +19,16 @@ use raft_records::Fault;
 use raft_script::{Op, Outcome};
 use std::alloc::{AllocError, Global};
 
-/// The images of all that a crash may leave of a log that was empty before these operations: of
-/// each prefix of the batches that their outcomes accept, with every batch that an answered sync
-/// covers, and of the whole with what may be in flight behind it. That is what the operation at
-/// `failed_at`, counted from 0, may have written when the engine failed in it: of its batches any
-/// choice, in order, but for those that what stands before them refuses; where it is None, nothing.
-/// No image shows the numbers that groups keep for writes that act once. For a group of n batches
+/// The images of everything that a crash may leave of a log that was empty before these operations:
+/// of each prefix of the batches that their outcomes accept, with every batch that a successful
+/// sync covers, and of all of them followed by what may be in flight. That is what the operation at
+/// `failed_at`, counted from 0, may have written when the engine failed in it: any choice of its
+/// batches, in order, except those that the contents before them refuse; nothing if it is None. No
+/// image shows the numbers that groups keep for writes that act once. For a group of n batches
 /// there are up to 2^n choices, and as many images are made: keep such a group small.
 ///
-/// It fails as `InvalidArgument` where the outcomes aren't as many as the operations, or where
-/// `failed_at` is the place of none of them; else for lack of memory alone.
+/// It fails with `InvalidArgument` if there are not as many outcomes as operations, or if
+/// `failed_at` is the place of none of them; otherwise only for lack of memory.
 pub fn allowed(
     alloc: Global,
     ops: &[Op],

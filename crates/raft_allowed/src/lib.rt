@@ -1,5 +1,5 @@
-//! What a crash may leave of a log after operations on it, told from the operations and their
-//! outcomes alone.
+//! What a crash may leave of a log after operations on it, derived only from the operations and
+//! their outcomes.
 #![tactic(auto)]
 
 mod answers;

@@ -90,8 +90,8 @@ pub(crate) fn is_mark(key: &[u8]) -> bool
     matches!(key, [b'_', b'_', 1])
 }
 
-/// The entries with new ones, which go behind those below the first of them; where they don't touch
-/// the list they replace it.
+/// The entries with new ones, which follow those below the first of them; if they do not touch the
+/// list they replace it.
 pub(crate) fn with_entries(
     alloc: Global,
     old: &[(u64, Vec<u8>)],

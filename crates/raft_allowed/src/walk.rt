@@ -18,15 +18,15 @@ use raft_script::{Op, Outcome};
 use std::alloc::{AllocError, Global};
 use std::mem;
 
-/// The images of what a crash may leave while nothing is in flight: those of the prefixes with
-/// every covered batch, but for the whole, and that of the whole.
+/// The images of what a crash may leave while nothing is in flight: those of the shorter prefixes
+/// with every covered batch, and that of the whole.
 #[derive(Drop)]
 pub(crate) struct Reached {
     pub earlier: Vec<Image>,
     pub last: Image,
 }
 
-/// One operation more, that is answered.
+/// One more operation, with its outcome.
 pub(crate) fn go_on(
     alloc: Global,
     reached: &mut Reached,
@@ -122,8 +122,8 @@ fn forget(reached: &mut Reached)
     reached.earlier.clear();
 }
 
-/// The images of what a crash may leave where some choice of these batches, in order and but for
-/// those that are refused, is in flight behind this. For n batches there are up to 2^n.
+/// The images of what a crash may leave if some choice of these batches, in order and without the
+/// refused ones, is in flight after this. For n batches there are up to 2^n.
 pub(crate) fn in_flight(
     alloc: Global,
     last: Image,

@@ -1,4 +1,5 @@
-//! What all crates share: faults, files and places in them, sizes as they are written, and earlier values for clauses.
+//! What all crates share: faults, files and places in them, sizes as they are written, and earlier
+//! values for clauses.
 #![tactic(auto)]
 
 mod errors;

@@ -13,7 +13,7 @@ static TEXTS: [Text; 18] = [
     Text(1, "invalid argument: a reason"),
     Text(2, "corruption"),
     Text(3, "io NotFound: a/b"),
-    Text(4, "no space in two log files, try again"),
+    Text(4, "no space, try again"),
     Text(5, "gap between entries"),
     Text(6, "number out of range"),
     Text(7, "entry compacted"),

@@ -14,10 +14,12 @@ share_out all append rewrite =
       rewrite = max 1 (all - shared all append rewrite);
     }
 
--- the workers of both queues, for so many threads and files
+-- the workers of both queues, for so many threads and files: one Rewrite file takes no thread
+-- from the Append queue
 abbrev pub workers_for : ℕ → ℕ → ℕ → Workers
 workers_for threads append rewrite =
-    share_out (min threads (append + rewrite)) append rewrite
+    if rewrite == 1 then record { append = max 1 (min threads append); rewrite = 1 }
+    else share_out (min threads (append + rewrite)) append rewrite
 
 -- how many of these files each of so many workers takes
 abbrev pub files_a_chunk : ℕ → ℕ → ℕ

@@ -10,12 +10,19 @@ pub struct Workers {
 
 ghost use Rattle.raft_builder.specs.Workers.{files_a_chunk, workers_for};
 
-/// The workers of both queues, for so many threads and files. There are no more than files. Where
-/// both queues have files they share the workers by how many, and each has one at least; else
-/// both have all.
+/// The workers of both queues, for so many threads and files. There are no more than files. If the
+/// Rewrite queue has one file, that file is mostly short: it gets a worker of its own, and all
+/// threads read the Append queue. If it has more, both queues share the workers by how many files
+/// they have, and each has at least one. If a queue has no file, the other has all workers.
 pub fn workers_for(threads: usize, append: usize, rewrite: usize) -> Workers
     ensures value { result ≡ workers_for threads append rewrite }
 {
+    if rewrite == 1 {
+        return Workers {
+            append: threads.min(append).max(1),
+            rewrite: 1,
+        };
+    }
     let files = append as u128 + rewrite as u128;
     let all = (threads as u128).min(files);
     if append == 0 || rewrite == 0 {
@@ -32,7 +39,7 @@ pub fn workers_for(threads: usize, append: usize, rewrite: usize) -> Workers
     }
 }
 
-/// How many files each of these workers takes, of so many; the last one may take fewer.
+/// How many of the files each of these workers takes; the last one may take fewer.
 pub fn chunk_len(files: usize, workers: usize) -> usize
     requires { 0 < workers }
     ensures value { result ≡ files_a_chunk files workers }

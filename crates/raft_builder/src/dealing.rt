@@ -1,4 +1,4 @@
-//! A queue's files, dealt out to workers.
+//! A queue's files, divided among workers.
 ghost use Rattle.std.specs.Prelude.{◌≡◌, ◌<◌, IfErr, IfOk};
 ghost use Rattle.std.specs.List.{AllByRecursion, flat_map};
 ghost use Rattle.raft_base.specs.declared.errors.Fault.TheVariants.{Memory};
@@ -9,8 +9,8 @@ use raft_opening::OpenedLog;
 use raft_records::{Factory, Fault};
 use std::alloc::Global;
 
-/// Parts of so many of these files each, in order, with a fresh machine for each part; the last
-/// part may have fewer.
+/// Parts of `part_len` files each, in order, with a fresh machine for each part. The last part may
+/// have fewer.
 pub(crate) fn deal<F: FileSystem, M: Drop, FA: Factory<M>>(
     alloc: Global,
     logs: Vec<OpenedLog<F>>,

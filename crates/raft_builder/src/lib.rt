@@ -1,4 +1,4 @@
-//! Opens both queues of log files in stages: they are found, read in order or by workers, and settled.
+//! Opens both queues of log files in stages: find, read in order or by workers, settle.
 #![tactic(auto)]
 
 pub mod chunks;

@@ -1,4 +1,4 @@
-//! Parts read side by side.
+//! Parts that are read side by side.
 ghost use Rattle.std.specs.Prelude.{IfOk};
 ghost use Rattle.std.specs.List.{All, AllByRecursion, AllZip};
 ghost use Rattle.raft_opening.specs.OpenedLogs.{IsUnread};
@@ -11,8 +11,8 @@ use std::alloc::{AllocError, Global};
 use std::thread;
 use std::thread::Threads;
 
-/// What a worker for each part makes of it, in the order of the parts. Where memory is wanting
-/// for the list some parts may have been dropped unread.
+/// The results of a worker for each part, in the order of the parts. If memory for the list runs
+/// out, some parts may have been dropped unread.
 pub(crate) fn read_side_by_side<R: Threads + Sync, F: FileSystem, M: MergingMachine + Drop>(
     rt: &R,
     alloc: Global,

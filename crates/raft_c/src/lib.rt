@@ -17,7 +17,7 @@ use log::Log;
 use raft_c_log::{Change, Fetch, Query, Scan};
 use std::alloc::Global;
 
-/// Begins a log, of which nothing is found yet: 0, or 12 for want of memory.
+/// Begins a log in which nothing is found yet: 0, or 12 for lack of memory.
 #[unsafe(no_mangle)]
 pub extern "C" fn raft_c_begin(alloc: Global, handle: &mut Handle) -> i32
     requires { handle.old.value ≡ None }
@@ -41,8 +41,8 @@ pub extern "C" fn raft_c_free(alloc: Global, handle: &mut Handle)
     let _log = std::mem::replace(handle, Handle::none()).into_box(alloc);
 }
 
-/// Adds a file that was found at a path: 0; or 1 where the path is no text or the log isn't one that
-/// was begun, or 12 for want of memory, and what was found before stays.
+/// Adds a file that was found at a path: 0; or 1 if the path is no text or the log was not begun,
+/// or 12 for lack of memory. Then what was found before stays.
 #[unsafe(no_mangle)]
 pub extern "C" fn raft_c_add_file(
     alloc: Global,
@@ -79,8 +79,8 @@ fn add(alloc: Global, handle: &mut Handle, path: &[u8], found: Found<'_>) -> i32
     code
 }
 
-/// Opens the log over what was found, with settings that are given as text. From then on its orders
-/// go to a descriptor; below 0 none is written.
+/// Opens the log over the added files, with settings as text. From then on its orders go to a
+/// descriptor; below 0 none is written.
 #[unsafe(no_mangle)]
 pub extern "C" fn raft_c_open(alloc: Global, handle: &mut Handle, out: i32, settings: &[u8])
     requires { IsSome handle.old.value }
@@ -147,7 +147,7 @@ pub extern "C" fn raft_c_write_once(
     );
 }
 
-/// Syncs what was written.
+/// Syncs everything that was written.
 #[unsafe(no_mangle)]
 pub extern "C" fn raft_c_sync(alloc: Global, handle: &mut Handle)
     requires { IsSome handle.old.value }
@@ -167,8 +167,8 @@ pub extern "C" fn raft_c_compact_to(alloc: Global, handle: &mut Handle, group: u
     change(alloc, handle, Change::CompactTo(group, index));
 }
 
-/// Writes what stands in the log files of the Append queue to the Rewrite queue, and drops them. The
-/// first number is how many they were.
+/// Writes the live data in the log files of the Append queue to the Rewrite queue, and drops these
+/// files. The first number is how many there were.
 #[unsafe(no_mangle)]
 pub extern "C" fn raft_c_must_rewrite_append_queue(alloc: Global, handle: &mut Handle)
     requires { IsSome handle.old.value }
@@ -178,10 +178,11 @@ pub extern "C" fn raft_c_must_rewrite_append_queue(alloc: Global, handle: &mut H
     change(alloc, handle, Change::RewriteAppendQueue);
 }
 
-/// Writes what groups have in the log files of the Append queue, up to one of this number, or its last
-/// one, to the Rewrite queue, and drops none: of the known groups from one on as many as have `budget`
-/// bytes there together, but one at least. The first number is the group from which a next call goes
-/// on, 0 where none is left, and the second one that of the last of these files.
+/// Writes what groups have in the log files of the Append queue, up to one with this number, or its
+/// last one, to the Rewrite queue, and drops none. It takes the known groups from one on, as many
+/// as have `budget` bytes there together, but at least one. The first number is the group with
+/// which a next call continues, 0 if none is left, and the second one that of the last of these
+/// files.
 #[unsafe(no_mangle)]
 pub extern "C" fn raft_c_must_rewrite_append_groups(
     alloc: Global,
@@ -202,10 +203,10 @@ pub extern "C" fn raft_c_must_rewrite_append_groups(
     );
 }
 
-/// Writes what groups have in the log files of the Rewrite queue to new ones, in several calls: of the
-/// known groups from one on as many as have `budget` bytes in that queue, but one at least. Behind the
-/// last one it drops the old files. The first number is the group from which a next call goes on, 0
-/// where none is left.
+/// Writes what groups have in the log files of the Rewrite queue to new ones, in several calls. It
+/// takes the known groups from one on, as many as have `budget` bytes in that queue, but at least
+/// one. After the last one it drops the old files. The first number is the group with which a next
+/// call continues, 0 if none is left.
 #[unsafe(no_mangle)]
 pub extern "C" fn raft_c_must_rewrite_rewrite_groups(
     alloc: Global,
@@ -221,8 +222,8 @@ pub extern "C" fn raft_c_must_rewrite_rewrite_groups(
     change(alloc, handle, Change::RewriteRewriteGroups(from, budget));
 }
 
-/// Writes what stands in the log files of the Rewrite queue to a new one, and drops them. The first
-/// number is how many they were.
+/// Writes the live data in the log files of the Rewrite queue to a new one, and drops these files.
+/// The first number is how many there were.
 #[unsafe(no_mangle)]
 pub extern "C" fn raft_c_must_rewrite_rewrite_queue(alloc: Global, handle: &mut Handle)
     requires { IsSome handle.old.value }
@@ -232,8 +233,8 @@ pub extern "C" fn raft_c_must_rewrite_rewrite_queue(alloc: Global, handle: &mut 
     change(alloc, handle, Change::RewriteRewriteQueue);
 }
 
-/// Drops the log files in front of the first one in which something stands, of both queues. The first
-/// number is how many they were of the Append queue.
+/// Drops the log files before the first referenced one, of both queues. The first number is how
+/// many of them were the Append queue's.
 #[unsafe(no_mangle)]
 pub extern "C" fn raft_c_must_purge_all_stale(alloc: Global, handle: &mut Handle)
     requires { IsSome handle.old.value }
@@ -244,8 +245,8 @@ pub extern "C" fn raft_c_must_purge_all_stale(alloc: Global, handle: &mut Handle
 }
 
 /// Rewrites the queues that are above the settings' thresholds, and drops no log file of the Append
-/// queue from this number on. The answer has the groups whose compaction is asked for, each in eight
-/// bytes, the greatest first.
+/// queue from this number on. The result has the groups that should be compacted, each in eight
+/// bytes, most significant first.
 #[unsafe(no_mangle)]
 pub extern "C" fn raft_c_purge_expired_files(alloc: Global, handle: &mut Handle, barrier: u64)
     requires { IsSome handle.old.value }
@@ -406,7 +407,7 @@ pub extern "C" fn raft_c_span(alloc: Global, handle: &mut Handle, group: u64) ->
     code
 }
 
-/// The bytes that the last call answered, or the text of its failure, once more.
+/// The bytes of the last call's result, or the text of its failure, once more.
 #[unsafe(no_mangle)]
 pub extern "C" fn raft_c_answer(alloc: Global, handle: &mut Handle, out: &mut [u8]) -> u64
     requires { IsSome handle.old.value }
@@ -419,7 +420,7 @@ pub extern "C" fn raft_c_answer(alloc: Global, handle: &mut Handle, out: &mut [u
     len
 }
 
-/// The numbers that the last call answered.
+/// The numbers of the last call's result.
 #[unsafe(no_mangle)]
 pub extern "C" fn raft_c_numbers(
     alloc: Global,

@@ -1,5 +1,5 @@
-//! A log behind a handle. Its calls that change something give orders, and are answered once the
-//! caller has carried these out.
+//! A log with a handle. Calls that change something give orders, and return after the caller has
+//! carried these out.
 ghost use Rattle.std.specs.Prelude.{◌≡◌, ◌∷◌, [], Some, length, pos, take};
 ghost use Rattle.raft_env.specs.Refusal.{no_refusals};
 ghost use Rattle.raft_disk.specs.Mirror.{mirror_directory, mirror_moments, mirror_refusals};
@@ -28,18 +28,18 @@ pub enum Standing {
     Settled,
     /// The last call gave some, and its code is kept until then.
     Waiting(i32),
-    /// One couldn't be, and no call is answered any more.
+    /// An order failed, and no later call succeeds.
     Broken,
 }
 
 #[derive(Drop)]
 pub enum State {
-    /// The files that were found so far.
+    /// The files that were found until now.
     Loading(Loading),
     Open(OpenLog<OrderedFileSystem>),
     /// Closed, or refused: the files as they were left.
     Closed(OrderedFileSystem),
-    /// Without files: closed before it was opened, or refused for want of memory for them.
+    /// Without files: closed before it was opened, or without memory for them.
     Ended,
 }
 
@@ -63,7 +63,7 @@ impl Log {
         }
     }
 
-    /// Adds what was found at a path, and tells a code.
+    /// Adds what was found at a path, and returns a code.
     pub(crate) fn add(&mut self, path: &[u8], found: Found<'_>) -> i32
         ensures value { HasAdded path.now found.entry result (Some self.old) (Some self.new) }
     {
@@ -73,9 +73,9 @@ impl Log {
         }
     }
 
-    /// Opens the log over what was found, with these settings. Its orders go to a descriptor; below 0
-    /// none are written. The code waits for them. Nothing changes where one waits, or where the log is
-    /// broken.
+    /// Opens the log over the added files, with these settings. Its orders go to a descriptor;
+    /// below 0 none are written. The code waits for them. Nothing changes if a code waits already,
+    /// or if the log is broken.
     pub(crate) fn open(&mut self, out: i32, settings: &[u8])
         ensures orders { GivesOrders (IsOpening settings.now self.old.state self.new.state)
             self.old self.new }
@@ -136,8 +136,8 @@ impl Log {
         }
     }
 
-    /// Carries a change out. Its code waits for its orders. Nothing changes where one waits, or where
-    /// the log is broken.
+    /// Carries a change out. Its code waits for its orders. Nothing changes if a code waits
+    /// already, or if the log is broken.
     pub(crate) fn change(&mut self, change: Change<'_>)
         ensures orders { GivesOrders (IsChange change.entry self.old.state self.new.state
             self.new.answer) self.old self.new }
@@ -152,8 +152,8 @@ impl Log {
         self.standing = Standing::Waiting(code);
     }
 
-    /// Closes the log. The code waits for its orders. Nothing changes where one waits, or where the log
-    /// is broken.
+    /// Closes the log. The code waits for its orders. Nothing changes if a code waits already, or
+    /// if the log is broken.
     pub(crate) fn close(&mut self)
         ensures orders { GivesOrders (IsClose self.old.state self.new.state) self.old self.new }
     {
@@ -194,7 +194,7 @@ impl Log {
         }
     }
 
-    /// Reads, and tells a code.
+    /// Reads, and returns a code.
     pub(crate) fn read(&mut self, query: Query<'_>) -> i32
         ensures value { IsRead query.entry result self.old self.new }
     {
@@ -207,7 +207,7 @@ impl Log {
         }
     }
 
-    /// Copies the last answer, as much of it as there is room for, and tells its length.
+    /// Copies the last result, as many bytes as fit, and returns its length.
     pub(crate) fn copy_answer(&self, out: &mut [u8]) -> u64
         ensures value { result ≡ length self.now.answer.bytes.items }
         ensures out { take result out.new ≡ take (length out.old) self.now.answer.bytes.items }
@@ -218,7 +218,7 @@ impl Log {
         bytes.len() as u64
     }
 
-    /// The numbers that the last call answered.
+    /// The numbers of the last call's result.
     pub(crate) fn numbers(&self) -> (u64, u64)
         ensures value { result ≡ self.now.answer.numbers }
     {

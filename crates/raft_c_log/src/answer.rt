@@ -1,4 +1,4 @@
-//! What the last call of a log answered.
+//! The result of the last call of a log.
 ghost use Rattle.std.specs.Prelude.{◌≡◌, [], pos};
 ghost use Rattle.raft_base.specs.Fault.{fault_code};
 
@@ -24,7 +24,7 @@ impl Answer {
         }
     }
 
-    /// Keeps the text of a fault, if there is memory for it, and tells its code.
+    /// Keeps the text of a fault, if there is memory for it, and returns its code.
     pub fn keep(&mut self, fault: &Fault) -> i32
         ensures value { result ≡ pos (fault_code fault.now) }
     {

@@ -1,4 +1,4 @@
-//! What is asked of a log.
+//! The calls of a log as values.
 ghost use Rattle.std.specs.Prelude.{◌≡◌};
 ghost use Rattle.raft_c_log.specs.Limit.{max_of};
 
@@ -11,7 +11,7 @@ pub enum Change<'a> {
     /// is synced.
     WriteOnce(&'a [u8], &'a [u64], &'a [u64], bool),
     Sync,
-    /// Of a group, the entries below an index go.
+    /// The entries of a group below an index are dropped.
     CompactTo(u64, u64),
     RewriteAppendQueue,
     /// .. of some groups, up to a log file: that file's number, the first group, and how many bytes of

@@ -9,10 +9,10 @@ ghost use Rattle.raft_c_log.specs.declared.calls.Change.{Change};
 use crate::OpenLog;
 use raft_env::FileSystem;
 
-/// What a sync covers stays. A change that makes sure of all, and ends with the code 0, leaves a log
-/// that stands and of which all is synced (`covered`). And whatever calls come then and however each
-/// ends, what was durable stays so, and a crash at any moment of the next one leaves it, with a prefix
-/// of what was written since and of what that call has in flight (`stays`).
+/// What a sync covers stays. A change that syncs everything, and ends with the code 0, leaves a log
+/// that has not failed and is wholly synced (`covered`). And whatever calls follow and however each
+/// ends, what was durable stays durable. A crash at any moment of the next one leaves it, with a
+/// prefix of what was written since and of what that call has in flight (`stays`).
 pub fn what_a_sync_covers_stays<F: FileSystem>(log: &OpenLog<F>)
     ensures covered { (change : Change) (answer : Answer) (new : _) → is_covering change ≡ true
         → HasEnded change (pos 0) log.now.engine new answer

@@ -1,4 +1,4 @@
-//! An open log for callers in other languages, whose calls tell codes and leave their answers as
+//! An open log for callers in other languages. Its calls return codes and leave their results as
 //! bytes and numbers.
 #![tactic(auto)]
 

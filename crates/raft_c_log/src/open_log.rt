@@ -1,4 +1,4 @@
-//! An engine whose calls are asked for by values.
+//! An engine whose calls are values.
 ghost use Rattle.std.specs.Prelude.{◌≡◌, ◌⊎◌, ◌↔◌, [], drop, Err, false, true, option_map, IfErr, IfOk, IsSomeAnd, MatchResult, OnOk, pos, zip};
 ghost use Rattle.std.proofs.Props.{props};
 ghost use Rattle.raft_base.specs.declared.errors.Fault.TheVariants.{Failed, Memory};
@@ -13,7 +13,7 @@ use raft_c_batch::{BatchFault, Entry, add_items, push_entries, push_numbers};
 use raft_log_engine::{Engine, Fault, FileSystem, LogBatch};
 use std::alloc::Global;
 
-/// What a call asked for isn't there.
+/// The code for a requested item that does not exist.
 const ABSENT: i32 = 20;
 
 /// An open log over some files.
@@ -61,7 +61,7 @@ impl<F: FileSystem + Drop> OpenLog<F> {
         }
     }
 
-    /// Closes the log, and tells a code: 0 where that was done. The files are as they are then.
+    /// Closes the log, and returns a code: 0 if that was done. The files are then as they are.
     #[tactic(auto, using(crate::proofs::CodeLemmas::fault_codes))]
     pub fn close(self, answer: &mut Answer) -> (i32, F)
         ensures closed { IsClosedAs result.0 self.engine result.1 }
@@ -86,7 +86,7 @@ impl<F: FileSystem> OpenLog<F> {
     ghost use Rattle.raft_c_log.specs.declared.calls.Change.TheVariants.{CompactTo, PurgeAllStale, PurgeExpired, RewriteAppendGroups, RewriteAppendQueue, RewriteRewriteGroups, RewriteRewriteQueue};
     ghost use Rattle.raft_c_log.specs.declared.calls.Query.TheVariants as query;
 
-    /// Carries a change out, and tells a code: 0 where that was done.
+    /// Carries a change out, and returns a code: 0 if that was done.
     pub fn change(&mut self, change: Change<'_>, answer: &mut Answer) -> i32
         ensures ended { HasEnded change.entry result self.old.engine self.new.engine answer.new }
     {
@@ -96,7 +96,7 @@ impl<F: FileSystem> OpenLog<F> {
         }
     }
 
-    /// Reads, and tells a code: 0 where what was asked for is there, 20 where it isn't.
+    /// Reads, and returns a code: 0 if the requested item exists, 20 if it does not.
     pub fn read(&mut self, query: Query<'_>, answer: &mut Answer) -> i32
         ensures reply { IsReply query.entry result self.old.engine self.new.engine answer.new }
     {

@@ -9,7 +9,7 @@ use std::alloc::Global;
 /// Why a log wasn't opened, and the files as they are then.
 #[derive(Drop)]
 pub struct Unopened<F> {
-    /// The code of a failure, whose text is the answer.
+    /// The code of a failure; its text is the result.
     pub code: i32,
     pub files: F,
 }

@@ -14,7 +14,7 @@ use raft_c_batch::push_pair;
 use raft_log_engine::{Engine, Fault, FileSystem};
 use std::alloc::Global;
 
-/// Pairs of keys and values, as far as there is room and memory for them.
+/// Pairs of keys and values, until room or memory runs out.
 #[derive(Drop)]
 struct Pairs {
     bytes: Vec<u8>,
@@ -36,7 +36,7 @@ impl Pairs {
         }
     }
 
-    /// Whether a pair was kept, and not where there is no room or no memory for it.
+    /// Whether a pair was kept; not without room or memory for it.
     fn keep(&mut self, key: &[u8], value: &[u8]) -> bool
         ensures ok { result ≡ true → self.new.bytes.items
             ≡ self.old.bytes.items ++ (part_bytes key.now ++ part_bytes value.now) }

@@ -1,23 +1,32 @@
-//! Settings.
+//! The settings of an engine, and the modes of recovery.
 ghost use Rattle.std.specs.Prelude.{◌≡◌, IfOk, IfErr, OnOk, OnErr, None};
 ghost use Rattle.std.specs.Option.{option_map};
 ghost use Rattle.raft_config.specs.Sanitized.{spare_files};
 
 use raft_records::{Fault, Fresh, ReadableSize, Version};
+use serde::{Deserialize, Serialize};
 use std::alloc::Global;
+use std::default::MadeWith;
 
-/// What an opening does about records that can't be read.
-#[derive(Clone, Copy, Debug, PartialEq, Eq)]
+/// The behavior of an opening if it finds bytes that are not a valid record.
+#[derive(Clone, Copy, Debug, PartialEq, Eq, Serialize, Deserialize)]
+#[serde(rename_all = "kebab-case")]
 pub enum RecoveryMode {
+    /// The opening fails.
     AbsoluteConsistency,
+    /// The opening cuts off the bytes at the end of the last file of a queue. In any other file it
+    /// fails.
+    #[serde(rename(serialize = "tolerate-corrupted-tail-records"), alias = "tolerate-corrupted-tail-records")]
     TolerateTailCorruption,
+    /// The opening cuts off the bytes at the end of the file, and continues with the next file.
     TolerateAnyCorruption,
 }
 
 impl RecoveryMode {
     ghost use Rattle.raft_config.specs.Recovery.{tolerates_corruption};
 
-    /// Whether an opening cuts off the broken bytes of a file: in the tail mode those of the last file of a queue alone.
+    /// Whether an opening cuts off the invalid bytes at the end of a file. `is_last` says whether
+    /// the file is the last of its queue.
     pub fn tolerates_corruption(self, is_last: bool) -> bool
         ensures value { result ≡ tolerates_corruption self is_last }
     {
@@ -29,47 +38,57 @@ impl RecoveryMode {
     }
 }
 
-/// How many bytes an opening reads at least at once.
+/// The least number of bytes that an opening reads at a time.
 const MIN_RECOVERY_READ_BLOCK_SIZE: u64 = 512;
 
 const MIN_RECOVERY_THREADS: usize = 1;
 
-/// How many files are kept for recycling at most.
+/// The greatest number of files that are kept for recycling.
 const MAX_SPARE_FILES: u64 = u32::MAX as u64;
 
-/// The settings of an engine. `specs/Config.antt` lists each with its default.
-#[derive(Debug, PartialEq)]
+/// The settings of an engine. `specs/Config.antt` lists the defaults.
+///
+/// With `serde` a program can make them a table of its own settings: keys are in kebab case, a key
+/// that is missing has its default, and other keys are passed over. The contracts of `serde` do not
+/// say which settings are read. Those of `raft_settings` do.
+#[derive(Debug, PartialEq, Serialize, Deserialize)]
+#[serde(rename_all = "kebab-case", default)]
 pub struct Config {
-    /// The folder of the log files. The empty path is the root.
+    /// The folder of the log files. The empty path is the root of the file system.
     pub dir: String,
-    /// A second folder, whose log files are read too. A new file goes there where `dir` has no room for it.
+    /// A second folder of log files. A new file is made there if `dir` has no room for it.
     pub spill_dir: Option<String>,
     pub recovery_mode: RecoveryMode,
-    /// How many bytes an opening reads at once.
+    /// The number of bytes that an opening reads at a time.
     pub recovery_read_block_size: ReadableSize,
+    /// The number of threads that read log files at an opening.
     pub recovery_threads: usize,
-    /// Read and ignored.
+    /// Has no effect.
     pub bytes_per_sync: Option<ReadableSize>,
+    /// The version of new log files.
     pub format_version: Version,
-    /// The size at which a log file is full.
+    /// The size at which a log file is full, and a new one is made.
     pub target_file_size: ReadableSize,
-    /// The size of the Append queue above which it is purged.
+    /// If the Append queue is larger than this, a purge rewrites what is still needed and drops
+    /// files.
     pub purge_threshold: ReadableSize,
-    /// The same of the Rewrite queue.
+    /// The same size for the Rewrite queue. Without it `rewrite_threshold` gives the size.
     pub purge_rewrite_threshold: Option<ReadableSize>,
-    /// The part of rewritten entries, in thousandths, that has to be garbage for a rewriting of the Rewrite queue.
+    /// A purge rewrites the Rewrite queue only if this part of its entries, in thousandths, is
+    /// garbage.
     pub purge_rewrite_garbage_ratio: u64,
-    /// Read and ignored.
+    /// Has no effect.
     pub memory_limit: Option<ReadableSize>,
-    /// Whether files that a purge drops are kept, and used again for next ones.
+    /// Whether the files that a purge drops are kept and used again as new files.
     pub enable_log_recycle: bool,
-    /// Whether an opening makes such files ahead, filled with zeros.
+    /// Whether an opening makes files for this purpose in advance, filled with zeros.
     pub prefill_for_recycle: bool,
-    /// How many bytes such files take at most, as the purge threshold is for the Append queue.
+    /// The greatest total size of the files made in advance. Without it the size is
+    /// `purge_threshold`.
     pub prefill_limit: Option<ReadableSize>,
 }
 
-// One call in a proof that drops it; derived, it would be one of each field (docs/DECISIONS.md).
+// By hand, so that a proof has one call for a drop and not one for each field (docs/DECISIONS.md).
 impl Drop for Config {
     fn drop(self) {
         let Config {
@@ -96,7 +115,7 @@ impl Config {
     ghost use Rattle.raft_config.specs.Config.{IsCopy};
     ghost use Rattle.raft_config.specs.Sanitized.{IsContradiction, contradiction, is_recycling, prefill_capacity, prefill_limit, recycle_capacity, rewrite_threshold, sanitized, spills_into_dir};
 
-    /// The same settings.
+    /// A copy of the settings. Fails with `Memory` only.
     pub fn clone(&self) -> Result<Config, Fault>
         ensures value { IfOk result (IsCopy self.now) }
         ensures cause { IfErr result (λ e. e ≡ Fault.Memory) }
@@ -124,8 +143,9 @@ impl Config {
         })
     }
 
-    /// Fails as `InvalidArgument` where settings contradict one another, and changes nothing then. Else missing limits
-    /// are filled in, a read block is raised to 512 bytes and the number of threads to 1.
+    /// Fails with `InvalidArgument` if the settings contradict one another, and then changes
+    /// nothing. Otherwise sets each missing limit, and raises the read block size to at least 512
+    /// bytes and the number of threads to at least 1.
     pub fn sanitize(&mut self) -> Result<(), Fault>
         ensures ok { OnOk result ((contradiction self.old ≡ None)
             × (self.new ≡ sanitized self.old)) }
@@ -148,7 +168,7 @@ impl Config {
         Ok(())
     }
 
-    // What the settings are refused for.
+    // The first contradiction, if there is one.
     fn contradiction(&self) -> Option<&'static str>
         ensures value { option_map (λ reason. reason.now) result ≡ contradiction self.now }
     {
@@ -176,8 +196,8 @@ impl Config {
         }
     }
 
-    /// The size of the Rewrite queue above which it is purged: where none is set a tenth of the Append queue's, and
-    /// that of a file at least.
+    /// The size of the Rewrite queue above which it is purged. If none is set, it is a tenth of
+    /// `purge_threshold`, and at least `target_file_size`.
     pub fn rewrite_threshold(&self) -> ReadableSize
         ensures value { result ≡ rewrite_threshold self.now }
     {
@@ -196,7 +216,8 @@ impl Config {
         Some(self.prefill_limit.unwrap_or(self.purge_threshold))
     }
 
-    /// How many files are kept at most to be used again: half as many again as the Append queue has at its purge.
+    /// The greatest number of files that are kept for use as new files: 3/2 of the number of files
+    /// that have `purge_threshold` bytes. It is 0 without recycling.
     pub fn recycle_capacity(&self) -> usize
         ensures value { result ≡ recycle_capacity self.now }
     {
@@ -207,7 +228,7 @@ impl Config {
         }
     }
 
-    /// How many of them an opening makes ahead.
+    /// The number of these files that an opening makes in advance.
     pub fn prefill_capacity(&self) -> usize
         ensures value { result ≡ prefill_capacity self.now }
     {
@@ -234,6 +255,17 @@ fn spare_files(size: ReadableSize, target: ReadableSize) -> usize
     }
     let files = (size.0 / target.0).saturating_mul(3) / 2;
     files.min(MAX_SPARE_FILES) as usize
+}
+
+// The default of the keys that a document lacks.
+impl MadeWith<Global> for Config {
+    ghost use Rattle.raft_config.specs.Config.{IsDefault};
+
+    ghost is_made_with = { IsDefault };
+
+    fn made_with(alloc: Global) -> Config {
+        Config::fresh(alloc)
+    }
 }
 
 impl Fresh for Config {

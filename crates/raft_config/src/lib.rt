@@ -1,4 +1,4 @@
-//! The settings of an engine: what they default to, what contradicts what, and what is used in their place.
+//! The settings of an engine: defaults, contradictions, and the limits that follow from them.
 #![tactic(auto)]
 
 mod config;

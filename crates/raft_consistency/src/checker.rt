@@ -14,8 +14,8 @@ use raft_records::{EntryIndex, LogItem, LogItemContent};
 use std::alloc::{AllocError, Global};
 use std::collections::{BTreeMap, HashMap};
 
-/// What a group's entries tell: the first index, the last one, and the last one before the first
-/// hole.
+/// What is known of a group's entries: the first index, the last one, and the last one before the
+/// first hole.
 #[derive(Clone, Copy, Debug)]
 struct GroupEntries {
     first: u64,
@@ -63,7 +63,7 @@ impl ConsistencyChecker {
         }
     }
 
-    /// Adds what later entries of a group tell.
+    /// Adds the knowledge of later entries of a group.
     fn add(&mut self, group: u64, later: GroupEntries) -> Result<(), AllocError>
         ensures ok { OnOk result ((one : ℕ) → kept_in self.new one
             ≡ kept_then (kept_in self.old one) (if group == one then Some later else None)) }
@@ -88,7 +88,7 @@ impl ConsistencyChecker {
         Ok(())
     }
 
-    /// Of each group with a hole the last index before the first one.
+    /// For each group with a hole the last index before the first one.
     pub fn finish(self, alloc: Global) -> Result<HashMap<u64, u64>, AllocError>
         ensures value { IfOk result (λ holes. (group : ℕ)
             → hash.get nat_eq holes group ≡ hole_in self group) }
@@ -112,7 +112,7 @@ impl ConsistencyChecker {
     }
 }
 
-/// Notes the hole of a group, where it has one.
+/// Notes the hole of a group, if it has one.
 fn note_hole(holes: &mut HashMap<u64, u64>, group: u64, hole: Option<u64>) -> Result<(), AllocError>
     ensures ok { OnOk result ((one : ℕ) → hash.get nat_eq holes.new one
         ≡ (if group == one then option_or hole (hash.get nat_eq holes.old one)
@@ -124,7 +124,7 @@ fn note_hole(holes: &mut HashMap<u64, u64>, group: u64, hole: Option<u64>) -> Re
     Ok(())
 }
 
-/// Sets the hole of a group, where it has one.
+/// Sets the hole of a group, if it has one.
 fn set_hole(holes: &mut BTreeMap<u64, u64>, group: u64, hole: Option<u64>) -> Result<(), AllocError>
     ensures ok { OnOk result ((one : ℕ) → tree.get nat_cmp holes.new one
         ≡ (if group == one then option_or hole (tree.get nat_cmp holes.old one)
@@ -136,7 +136,7 @@ fn set_hole(holes: &mut BTreeMap<u64, u64>, group: u64, hole: Option<u64>) -> Re
     Ok(())
 }
 
-/// What an item's entries tell, where it has some.
+/// What is known of an item's entries, if it has some.
 fn entries_in(content: &LogItemContent) -> Option<GroupEntries>
     ensures value { result
         ≡ kept_of (range_by (content_in (λ _. []) (placed_content_of content.now))) }
@@ -175,7 +175,7 @@ fn joined(earlier: GroupEntries, later: GroupEntries) -> GroupEntries
     }
 }
 
-/// The last index, where entries that start with this one leave a hole behind it.
+/// The last index, if entries that start with this one leave a hole after it.
 fn hole_before(last: u64, first: u64) -> Option<u64>
     ensures value { result ≡ hole_before last first }
 {

@@ -1,4 +1,4 @@
-//! Where the entries that a log's files hold leave holes.
+//! Finds holes in the entries that a log's files hold.
 #![tactic(auto)]
 
 mod check;

@@ -1,4 +1,5 @@
-//! What both queues in the settings' folders hold, in contents, and what each call on one of them makes of that.
+//! What both queues in the settings' folders hold, as contents, and what each call on one of them
+//! makes of that.
 #![tactic(auto)]
 
 pub mod steps;

@@ -1,4 +1,4 @@
-//! What calls on one queue make of both, in contents.
+//! What calls on one queue make of both, as contents.
 ghost use Rattle.std.specs.Prelude.{◌++◌, ◌∷◌, ℕ, Bool, List, [], true, false, ⊤};
 ghost use Rattle.raft_base.specs.declared.pipe_log.LogQueue.{LogQueue};
 ghost use Rattle.raft_base.specs.declared.pipe_log.LogQueue.TheVariants.{Append, Rewrite};

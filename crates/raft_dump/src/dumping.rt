@@ -8,8 +8,8 @@ use raft_env::FileSystem;
 use raft_records::Fault;
 use std::alloc::Global;
 
-/// The items of the log file at a path, or of those in the folder there. It fails as `InvalidArgument` where neither
-/// stands there, or the file's name tells no log file.
+/// The items of the log file at a path, or of those in the folder there. It fails with
+/// `InvalidArgument` if neither exists, or if the name is no log file's.
 pub fn dump_with_file_system<F: FileSystem>(
     alloc: Global,
     path: &str,

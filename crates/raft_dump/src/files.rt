@@ -17,7 +17,7 @@ pub struct LogFile {
     pub path: String,
 }
 
-/// The log file that a name stands for in a folder: one of the queue, whose name is built of its number.
+/// The log file with this name in a folder: one of the queue, if the name is built of its number.
 pub fn log_file(
     alloc: Global,
     folder: &str,
@@ -41,8 +41,8 @@ pub fn log_file(
     }
 }
 
-/// The log files that these names stand for in a folder: those of the Rewrite queue, then those of the Append queue,
-/// each in the order of the names.
+/// The log files with these names in a folder: those of the Rewrite queue, then those of the Append
+/// queue, each in the order of the names.
 pub fn log_files(alloc: Global, folder: &str, names: &[String]) -> Result<Vec<LogFile>, Fault>
     ensures value { IfOk result (λ files. map place_of files.items
         ≡ files_named folder.now (map string_bytes names.now)) }

@@ -48,8 +48,8 @@ fn plan_file(is_tolerant: bool, check: &FileCheck) -> Planned
     }
 }
 
-/// How many of these files, which are by number, stand before the last ones whose numbers rise by one: an opening
-/// passes them over.
+/// How many of these files, which are by number, precede the last ones with consecutive numbers: an
+/// opening passes them over.
 pub fn passed_over(checks: &[FileCheck]) -> usize
     ensures value { AreLastToRise (numbers_of checks.now) result }
 {

@@ -1,4 +1,4 @@
-//! Records of an earlier file behind those of a file that is used again.
+//! Records of an earlier file after those of a file that is used again.
 ghost use Rattle.std.specs.Prelude.{◌≡◌, true, None, IfErr, IfOk};
 ghost use Rattle.raft_base.specs.declared.errors.Fault.TheVariants.{Memory};
 ghost use Rattle.raft_records.specs.ItemBatch.{record_refusal};
@@ -11,7 +11,7 @@ use raft_codec::number::take_u32;
 use raft_records::{Fault, FileId, LogFileContext, Version, decode_header, decode_record};
 use std::alloc::Global;
 
-/// How many bytes behind the last record of a file are searched for a record of an earlier file.
+/// How many bytes after the last record of a file are searched for a record of an earlier file.
 pub const STALE_LEN: usize = 1024 * 1024;
 
 /// How many bytes of records are summed in such a search. Bytes that are no log's can hold a header at each place.
@@ -41,8 +41,8 @@ impl StaleSearch {
     }
 }
 
-/// Whether the first record in these bytes, at whatever place it stands, is signed for an earlier
-/// file of the queue, as behind the records of a file that is used again.
+/// Whether the first record in these bytes, at any place, is signed for an earlier file of the
+/// queue, as after the records of a file that is used again.
 pub fn search_stale(alloc: Global, id: FileId, bytes: &[u8]) -> Result<StaleSearch, Fault>
     ensures value { IfOk result (IsSearched id bytes.now) }
     ensures memory { IfErr result (λ e. e ≡ Memory) }

@@ -13,11 +13,12 @@ ghost use Rattle.raft_dump.specs.declared.plan.Planned.TheVariants.{Fail};
 ghost use Rattle.raft_dump_laws.specs.Planned.{AreChecksIn, AreReadAs};
 ghost use Rattle.raft_dump_laws.specs.Passed.{AreAllOf, IsDoubledAt, numbers_in};
 
-/// Of files of a queue, by the bytes at their paths, and what a check tells of each: where no file is planned to fail,
-/// an opening finds no damage in them (`opens`), and it finds them as planned (`read`); where one is planned to fail, it
-/// finds damage (`fails`); and where it finds damage, one is planned to fail (`refused`). What an opening finds is what
-/// `raft_opening` says of `read_files`: `IsOpenableFile` of each with `Ok`, `HasDamageAmong` where it is refused for what
-/// the files hold.
+/// What an opening finds in files of a queue, by the bytes at their paths and the result of a check
+/// of each. If no file is planned to fail, it finds no damage in them (`opens`), and it finds them
+/// as planned (`read`). If one is planned to fail, it finds damage (`fails`), and if it finds
+/// damage, one is planned to fail (`refused`). What an opening finds is what `raft_opening` says of
+/// `read_files`: `IsOpenableFile` for each after `Ok`, `HasDamageAmong` if it fails because of the
+/// files.
 pub fn a_plan_is_what_an_opening_does()
     ensures opens { (mode : RecoveryMode) (queue : LogQueue) (bytes : Path → List ℕ)
         (files : List (ℕ × Path)) (checks : List FileCheck)
@@ -37,8 +38,9 @@ pub fn a_plan_is_what_an_opening_does()
         → Contains (plan_of mode checks) Fail }
 {}
 
-/// Of all log files of a queue in these folders, by number, an opening keeps those behind the ones that `passed_over` of
-/// `raft_dump` counts, unless the first of these has the number of the one before it.
+/// Of all log files of a queue in these folders, by number, an opening keeps those after the ones
+/// that `passed_over` of `raft_dump` counts, unless the first of these has the number of the one
+/// before it.
 pub fn the_files_behind_are_kept()
     ensures { (folders : List Path) (queue : LogQueue) (n : Directory) (files : List (ℕ × Path))
         (passed : ℕ) → AreAllOf (paths_of folders queue n) files

@@ -1,4 +1,4 @@
-//! Laws: what `raft_dump` tells of the files of a queue is what an opening does with them.
+//! Laws: an opening does with the files of a queue what `raft_dump` plans.
 #![tactic(auto)]
 
 mod laws;

@@ -1,5 +1,5 @@
-//! What the engine assumes of storage: files by their paths, and what a crash at each moment may
-//! leave of them.
+//! The contract of storage: files by their paths, and what a crash at each moment may leave of
+//! them.
 ghost use Rattle.std.specs.Prelude.{◌≡◌, ◌⊎◌, ◌↔◌, ◌<◌, ◌+◌, ◌^◌, [], ◌∷◌, List, ℕ, Bool, true, false, length, take, map, IfOk, OnOk, OnErr, Some, is_some};
 ghost use Rattle.std.specs.String.{string_bytes};
 ghost use Rattle.raft_env.specs.Outcomes.{File, file_after_write, file_after_resize, synced_of, overlay, pad_to};
@@ -28,7 +28,8 @@ pub enum FsFault {
 impl FsFault {
     ghost use Rattle.raft_env.specs.Refusal.{RefusalsRoseForFault, CountsRefusal, FailsAt, FailsCountedAt, IsFaultOf, NamesFile};
 
-    /// The fault of a call on the file at the path. It names none where there is no memory for that.
+    /// The fault of a call on the file at the path. It names no file if there is no memory for
+    /// that.
     pub fn with_path(self, alloc: Global, path: &str) -> Fault
         ensures value { IsFaultOf path.now self result }
         ensures cause { (old new : Refusals) → RefusalsRoseForFault self old new
@@ -70,8 +71,8 @@ impl<T: Drop> From<AllocFailed<T>> for FsFault {
     }
 }
 
-/// Files by their paths. A path is never normalised: its folder is what stands before its last `/`,
-/// and the empty path is the root. A handle, a reader or a writer means the file that stands at its
+/// Files by their paths. A path is never normalised: its folder is the text before its last `/`,
+/// and the empty path is the root. A handle, a reader or a writer means the file that is at its
 /// path when it is used.
 pub trait FileSystem: Send + Sync {
     type Handle: Send + Drop;
@@ -99,13 +100,13 @@ pub trait FileSystem: Send + Sync {
 
     ghost writer_path: { Self.Writer → Path };
 
-    /// Whether a path has metadata, which stand apart from the files.
+    /// Whether a path has metadata, which are separate from the files.
     ghost metadata_of: { Self → Path → Bool };
 
-    /// The free space of a folder, as it was told last.
+    /// The free space of a folder, as last reported.
     ghost free_at: { Self → Path → ℕ };
 
-    /// Makes a file without bytes. A path that stands keeps its file.
+    /// Makes a file without bytes. If the path has a file, that file stays.
     fn create(&mut self, path: &str) -> Result<Self::Handle, FsFault>
         ensures handle { IfOk result (λ h. (handle_path h ≡ path.now) × (may_write h ≡ true)) }
         ensures ok { OnOk result (directory self.new ≡ after_create path.now (directory self.old)) }
@@ -123,7 +124,7 @@ pub trait FileSystem: Send + Sync {
         ensures unchanged { OnlyReads directory moments refusals_of self.old self.new }
         ensures counts { CountsRefusalOf result (refusals_of self.old) (refusals_of self.new) };
 
-    /// A handle of the file finds none from then on.
+    /// Deletes the file. A handle of it finds no file afterwards.
     fn delete(&mut self, path: &str) -> Result<(), FsFault>
         ensures value { OnOk result (HasFile (directory self.old) path.now) }
         ensures ok { OnOk result (directory self.new ≡ without_file path.now (directory self.old)) }
@@ -133,9 +134,9 @@ pub trait FileSystem: Send + Sync {
             self.old self.new }
         ensures counts { CountsRefusalOf result (refusals_of self.old) (refusals_of self.new) };
 
-    /// The file keeps its bytes and what a crash may leave of them, and all its places are stale.
-    /// A file that stands at the other path is replaced. A handle of either path means what stands
-    /// there from then on.
+    /// Renames the file. It keeps its bytes and what a crash may leave of them, and all its places
+    /// are stale. A file at the other path is replaced. A handle of either path means the file that
+    /// is there afterwards.
     fn rename(&mut self, from: &str, to: &str) -> Result<(), FsFault>
         ensures value { OnOk result (HasFile (directory self.old) from.now) }
         ensures ok { OnOk result (directory self.new
@@ -146,7 +147,7 @@ pub trait FileSystem: Send + Sync {
             self.old self.new }
         ensures counts { CountsRefusalOf result (refusals_of self.old) (refusals_of self.new) };
 
-    /// As `rename`, for a file whose bytes are to be written over.
+    /// As `rename`, for a file whose bytes are to be overwritten.
     fn reuse(&mut self, from: &str, to: &str) -> Result<(), FsFault>
         ensures value { OnOk result (HasFile (directory self.old) from.now) }
         ensures ok { OnOk result (directory self.new
@@ -160,7 +161,7 @@ pub trait FileSystem: Send + Sync {
         self.rename(from, to)
     }
 
-    /// Where only the opening fails, the file stays renamed.
+    /// If only the opening fails, the file stays renamed.
     fn reuse_and_open(&mut self, from: &str, to: &str) -> Result<Self::Handle, FsFault>
         ensures handle { IfOk result (λ h. (handle_path h ≡ to.now) × (may_write h ≡ true)) }
         ensures value { OnOk result (HasFile (directory self.old) from.now) }
@@ -187,7 +188,7 @@ pub trait FileSystem: Send + Sync {
         ensures counts { refusals_of self.new ≡ added_count (refusals_of self.old)
             (reader_refusals reader) };
 
-    /// Refused as `Other` for a handle that was opened to be read only.
+    /// Fails with `Other` for a handle that was opened only for reading.
     fn new_writer(&mut self, handle: &Self::Handle) -> Result<Self::Writer, FsFault>
         ensures writer { IfOk result (λ w. (writer_path w ≡ handle_path handle.now)
             × (may_write handle.now ≡ true)) }
@@ -195,7 +196,7 @@ pub trait FileSystem: Send + Sync {
         ensures unchanged { OnlyReads directory moments refusals_of self.old self.new }
         ensures counts { CountsRefusalOf result (refusals_of self.old) (refusals_of self.new) };
 
-    /// Writes over what stands there, and past the end.
+    /// Overwrites bytes, and writes past the end.
     fn write(&mut self, writer: &mut Self::Writer, at: usize, bytes: &[u8]) -> Result<(), FsFault>
         ensures writer { writer_path writer.new ≡ writer_path writer.old }
         ensures value { OnOk result (HasFile (directory self.old) (writer_path writer.old)) }
@@ -207,7 +208,7 @@ pub trait FileSystem: Send + Sync {
             (IsWriting (writer_path writer.old) at bytes.now) self.old self.new }
         ensures counts { CountsRefusalOf result (refusals_of self.old) (refusals_of self.new) };
 
-    /// Cuts the file to a length; at or past its end it stays as it is.
+    /// Cuts the file to a length. At or past its end the file does not change.
     fn truncate(&mut self, writer: &mut Self::Writer, size: usize) -> Result<(), FsFault>
         ensures writer { writer_path writer.new ≡ writer_path writer.old }
         ensures value { OnOk result (HasFile (directory self.old) (writer_path writer.old)) }
@@ -217,7 +218,8 @@ pub trait FileSystem: Send + Sync {
             self.old self.new }
         ensures counts { CountsRefusalOf result (refusals_of self.old) (refusals_of self.new) };
 
-    /// Lengthens the file with zeros to `at + size` bytes; a file that is as long stays as it is.
+    /// Lengthens the file with zeros to `at + size` bytes. A file of that length or more does not
+    /// change.
     fn allocate(&mut self, writer: &mut Self::Writer, at: usize, size: usize) -> Result<(), FsFault>
         ensures writer { writer_path writer.new ≡ writer_path writer.old }
         ensures value { OnOk result (HasFile (directory self.old) (writer_path writer.old)) }
@@ -228,7 +230,7 @@ pub trait FileSystem: Send + Sync {
             (IsAllocating (writer_path writer.old) (at + size)) self.old self.new }
         ensures counts { CountsRefusalOf result (refusals_of self.old) (refusals_of self.new) };
 
-    /// After `Ok` a crash leaves the bytes now and nothing else.
+    /// After `Ok` a crash leaves exactly the bytes now.
     fn sync(&mut self, writer: &mut Self::Writer) -> Result<(), FsFault>
         ensures writer { writer_path writer.new ≡ writer_path writer.old }
         ensures value { OnOk result (HasFile (directory self.old) (writer_path writer.old)) }
@@ -240,7 +242,7 @@ pub trait FileSystem: Send + Sync {
             self.new }
         ensures counts { CountsRefusalOf result (refusals_of self.old) (refusals_of self.new) };
 
-    /// The number of bytes read: 0 only at the end or for an empty slice.
+    /// Returns the number of bytes read: 0 only at the end or for an empty slice.
     fn read(&self, reader: &mut Self::Reader, at: usize, bytes: &mut [u8]) -> Result<usize, FsFault>
         ensures reader { reader_path reader.new ≡ reader_path reader.old }
         ensures ok { IfOk result (λ n. ReadsAt
@@ -248,8 +250,8 @@ pub trait FileSystem: Send + Sync {
         ensures counts { CountsRefusalOf result (reader_refusals reader.old)
             (reader_refusals reader.new) };
 
-    /// Puts bytes of the file at a path, from a place on, into a buffer in place of its own: so many,
-    /// fewer where the file ends before. After an `Err` the buffer may hold anything.
+    /// Replaces a buffer's bytes by `len` bytes of the file at a path, from a place on; by fewer if
+    /// the file ends before. After an `Err` the buffer may hold anything.
     fn read_block(
         &mut self,
         path: &str,
@@ -262,6 +264,13 @@ pub trait FileSystem: Send + Sync {
         ensures unchanged { OnlyReads directory moments refusals_of self.old self.new }
         ensures counts { CountsRefusalOf result (refusals_of self.old) (refusals_of self.new) };
 
+    /// A hint that these parts of a file, each from a place up to another, are read next. Nothing
+    /// changes, and the number that it returns says nothing: a caller keeps it, so that no compiler
+    /// leaves the hint out.
+    fn will_read(&self, _path: &str, _parts: &[(usize, usize)]) -> u64 {
+        0
+    }
+
     fn file_size(&mut self, handle: &Self::Handle) -> Result<usize, FsFault>
         ensures value { IfOk result (λ n. (file : File)
             × (file_at (directory self.old) (handle_path handle.now) ≡ Some file)
@@ -270,8 +279,8 @@ pub trait FileSystem: Send + Sync {
         ensures unchanged { OnlyReads directory moments refusals_of self.old self.new }
         ensures counts { CountsRefusalOf result (refusals_of self.old) (refusals_of self.new) };
 
-    /// Makes a folder, with those on the way to it. A folder that stands stays. A refusal may leave
-    /// some of them made.
+    /// Makes a folder and its parents. An existing folder stays. If the call fails, some of them
+    /// may exist.
     fn make_dir(&mut self, path: &str) -> Result<(), FsFault>
         ensures ok { OnOk result (directory self.new ≡ folder_made path.now (directory self.old)) }
         ensures any_moment { MovesBy directory moments refusals_of (IsMakingFolder path.now) self.old self.new }
@@ -294,7 +303,7 @@ pub trait FileSystem: Send + Sync {
     fn exists_metadata(&self, path: &str) -> bool
         ensures value { result ≡ metadata_of self.now path.now };
 
-    /// Takes a path's metadata away, where there are any.
+    /// Removes a path's metadata, if there are any.
     fn delete_metadata(&mut self, path: &str) -> Result<(), FsFault>
         ensures ok { OnOk result (metadata_of self.new path.now ≡ false) }
         ensures err { OnErr result ((p : Path) → metadata_of self.new p ≡ metadata_of self.old p) }
@@ -309,12 +318,12 @@ pub trait FileSystem: Send + Sync {
     fn is_file(&self, path: &str) -> bool
         ensures value { result ≡ is_some (file_at (directory self.now) path.now) };
 
-    /// How many storage calls failed, but for the reads, which their readers count. It stops at
+    /// How many storage calls failed, without the reads, which their readers count. It stops at
     /// 2^64 - 1.
     fn refusals(&self) -> u64
         ensures value { result ≡ (refusals_of self.now).storage };
 
-    /// The same of the calls of this reader.
+    /// The same for the calls of this reader.
     fn read_refusals(&self, reader: &Self::Reader) -> u64
         ensures value { result ≡ (reader_refusals reader.now).storage };
 

@@ -1,13 +1,13 @@
-//! What holds of files, whatever calls were made.
+//! What holds for files, whatever calls were made.
 ghost use Rattle.std.specs.Prelude.{◌≡◌, ◌≢◌, ◌++◌, ◌↔◌, ℕ, List, Some, None, true};
 ghost use Rattle.std.specs.List.{Contains};
 ghost use Rattle.raft_env.specs.Consistent.{AreConsistent};
 ghost use Rattle.raft_env.specs.Directory.{Directory, IsOneOf, IsAllocating, IsMakingFolder, IsRestarted, IsTruncating, IsWriting, CrashImage, HasFile, Path, is_name, names_in, path_in, file_at, update_file, after_create, after_rename, without_file};
 ghost use Rattle.raft_env.specs.Outcomes.{File, IsStaleAfter, MayLeave, renamed_of, synced_of};
 
-/// Each call keeps files consistent: outside the ranges of its changes a file holds the bytes of its
-/// last sync, and each change began with what the one before it left. What a crash left is
-/// consistent.
+/// Each call keeps files consistent. Outside the ranges of its changes a file holds the bytes of
+/// its last sync, and each change began with the bytes that the one before it left. Files after a
+/// crash are consistent.
 pub fn calls_keep_files_consistent()
     ensures writing { (path : Path) (at : ℕ) (given : List ℕ) (old n : Directory)
         → AreConsistent old → IsWriting path at given old n → AreConsistent n }
@@ -28,9 +28,9 @@ pub fn calls_keep_files_consistent()
     ensures restarted { (n m : Directory) (d : CrashImage) → IsRestarted n d m → AreConsistent m }
 {}
 
-/// A deletion removes one file (`deleted`). A renaming moves one (`renamed`, `moved`), which keeps its
-/// bytes and what a crash may leave of them (`left`), and of which all places are stale (`stale`). All
-/// other paths keep what stands there (`kept`, `others`).
+/// A deletion removes one file (`deleted`). A renaming moves one (`renamed`, `moved`), which keeps
+/// its bytes and what a crash may leave of them (`left`); all its places are stale (`stale`). All
+/// other paths keep their files (`kept`, `others`).
 pub fn other_files_stay()
     ensures deleted { (path : Path) (n : Directory) → file_at (without_file path n) path ≡ None }
     ensures kept { (path other : Path) (n : Directory) → other ≢ path
@@ -47,7 +47,7 @@ pub fn other_files_stay()
         IsStaleAfter renamed.renamed_after (renamed.changes ++ renamed.older) i }
 {}
 
-/// A folder lists a name exactly where a file stands at its path in the folder.
+/// A folder lists a name exactly if a file is at its path in the folder.
 pub fn a_folder_lists_its_files()
     ensures { (folder : Path) (name : List ℕ) (n : Directory) → Contains (names_in folder n) name
         ↔ ((is_name name ≡ true) × HasFile n (path_in folder name)) }

@@ -1,4 +1,4 @@
-//! What the engine assumes of storage: files, and what a crash may leave of them.
+//! The contract of storage: files, and what a crash may leave of them.
 #![tactic(auto)]
 
 mod env;

@@ -3,7 +3,7 @@ ghost use Rattle.std.specs.Prelude.{◌≡◌, None, Some, MatchOption};
 ghost use Rattle.raft_env.specs.Directory.{after_folder, is_on_way, name_in, path_below};
 ghost use Rattle.raft_env.specs.PathParts.{IsParent};
 
-/// The folder of a path: what stands before its last `/`, or the root.
+/// The folder of a path: the text before its last `/`, or the root.
 pub fn parent(path: &str) -> &str
     ensures value { IsParent path.now result.now }
 {
@@ -13,14 +13,14 @@ pub fn parent(path: &str) -> &str
     }
 }
 
-/// Whether the folder is the path itself or one on the way to it.
+/// Whether the folder is the path itself or one of its parents.
 pub fn is_on_way(folder: &str, path: &str) -> bool
     ensures value { result ≡ is_on_way folder.now path.now }
 {
     folder == path || after_folder(folder, path).is_some()
 }
 
-/// The name of a path that stands in the folder itself.
+/// The name of a path that is directly in the folder.
 pub fn name_in<'a>(folder: &str, path: &'a str) -> Option<&'a str>
     ensures value { MatchOption result (name_in folder.now path.now ≡ None)
         (λ name. name_in folder.now path.now ≡ Some name.now) }

@@ -1,4 +1,4 @@
-//! Which calls of a log file bring it no record but those that were written.
+//! Which calls bring a log file no record except the written ones.
 ghost use Rattle.std.specs.Prelude.{◌≡◌, ◌+◌, ◌<◌, ◌^◌, ◌++◌, ◌∷◌, ℕ, List, [], Some, length, take};
 ghost use Rattle.raft_records.specs.Item.{Batch};
 ghost use Rattle.raft_records.specs.Record.{record_of};
@@ -12,12 +12,12 @@ ghost use Rattle.raft_files.specs.Completed.{AreCompletedRecordsAt, HasCompleted
 ghost use Rattle.raft_files.specs.Writer.{HasChanged, IsAppended, IsAppending, IsClosed, IsCut, IsCutting, IsSynced, bytes_at};
 ghost use Rattle.raft_files.specs.declared.format.LogFileFormat.{LogFileFormat};
 
-/// A record that can be read, that no failed call brought and that isn't stale stays so in every
-/// further call. So calls keep a log of such records, where only writes fail: when it is begun, in a
-/// new file or in a renamed one (`begun`), found and cut where its reading ends (`found`), appended
-/// to, synced and closed, and when a failed append is taken back (`undone`). The records stay so at
-/// each moment of an append (`appending`) and of a cut (`cutting`). What a crash left is so
-/// (`restarted`), and what a cut leaves of such records (`cut`).
+/// A readable record that no failed call brought and that is not stale stays so in every further
+/// call. So calls keep a log of such records if only writes fail: when it is begun, in a new file
+/// or in a renamed one (`begun`), found and cut at the end of its reading (`found`), appended to,
+/// synced and closed, and when a failed append is taken back (`undone`). The records stay so at
+/// each moment of an append (`appending`) and of a cut (`cutting`), after a crash (`restarted`),
+/// and after a cut of such records (`cut`).
 pub fn failed_calls_add_no_record()
     ensures log { (path : Path) (id : FileId) (format : LogFileFormat) (batches : List Batch)
         (synced at : ℕ) (n : Directory) → HasCompletedLog path id format batches synced at n

@@ -1,4 +1,4 @@
-//! What holds of the records of files, whoever writes or reads them.
+//! What holds for the records of files, whoever writes or reads them.
 ghost use Rattle.std.specs.Prelude.{◌≡◌, ◌+◌, ◌<◌, ◌^◌, ◌++◌, ◌∷◌, ℕ, List, [], true, None, Some, length, take};
 ghost use Rattle.std.specs.List.{take_while};
 ghost use Rattle.raft_base.specs.FileId.{signature_in};
@@ -16,8 +16,8 @@ ghost use Rattle.raft_files.specs.Sealed.{IsSealed};
 ghost use Rattle.raft_files.specs.Writer.{HasChanged, IsAppended, IsAppending, IsClosed, IsClosing, IsOpening, IsSynced, IsSyncing, bytes_at};
 ghost use Rattle.raft_files.specs.declared.format.LogFileFormat.{LogFileFormat};
 
-/// A file with a header alone is read to its end and has no batch. A record appended to a file that
-/// is read to its end is one batch more, and the file is read to its end again.
+/// A file with only a header is read to its end and has no batch. A record that is appended to a
+/// file that is read to its end adds one batch, and the file is read to its end again.
 pub fn appended_record_is_read()
     ensures header { (id : FileId) (format : LogFileFormat) → HasHeader format
         → format.alignment < 2 ^ 64 → (readable_batches id (header_bytes format) ≡ [])
@@ -29,25 +29,25 @@ pub fn appended_record_is_read()
         × (is_read_to_end id (bytes ++ more) ≡ true) }
 {}
 
-/// Bytes after those that were read hide none of their batches.
+/// Bytes after the read ones hide none of their batches.
 pub fn more_bytes_hide_no_batch()
     ensures value { (id : FileId) (bytes more : List ℕ) → (later : List Batch)
         × (readable_batches id (bytes ++ more) ≡ readable_batches id bytes ++ later) }
 {}
 
-/// A replay looks at no entries block: what can be read of a file is the longest prefix of what
-/// a replay takes in which all blocks are sound.
+/// A replay reads no entries block: the readable batches of a file are the longest prefix of those
+/// that a replay takes in which all blocks are sound.
 pub fn readable_records_are_the_replayed_with_sound_blocks()
     ensures value { (id : FileId) (bytes : List ℕ) → readable_records id bytes
         ≡ take_while (λ p. has_sound_block_at bytes p.at) (replayed_records id bytes) }
 {}
 
-/// What a crash leaves of a log file, where damage is detectable: the first of its batches, with all
-/// synced ones (`left`). So between two calls and while the file is synced or closed; inside an
-/// append, and after a failed one, possibly also the batch that is written. What a crash left is
-/// synced. Where no file stands nothing is left (`none`), more batches may be allowed (`more`), and
-/// a change of other files changes nothing of it (`beside`). The moments of a writer's calls are
-/// those that `LogFileWriter` names.
+/// What a crash leaves of a log file, if damage is detectable: a prefix of its batches, with all
+/// synced ones (`left`). That holds between two calls and while the file is synced or closed;
+/// inside an append, and after a failed one, possibly also with the batch that is written.
+/// Everything that a crash left is synced. Without a file nothing is left (`none`), more batches
+/// may be allowed (`more`), and a change of other files changes none of it (`beside`). The moments
+/// of a writer's calls are those that `LogFileWriter` names.
 pub fn crash_of_a_file_leaves_a_prefix()
     ensures left { (path : Path) (id : FileId) (batches : List Batch) (synced : ℕ) (n : Directory)
         → RecoversPrefixAt path id batches synced n → (d : CrashImage) → Leaves n d
@@ -95,7 +95,7 @@ pub fn crash_of_a_file_leaves_a_prefix()
 
 /// What a writer's calls make of a log file. A header that is synced is a log without batches
 /// (`begun`), an append adds its batch, and after a sync all batches are synced. A failed append
-/// may have left its record after the log (`torn`); the log that is then closed doesn't hold it
+/// may have left its record after the log (`torn`); the log that is then closed does not hold it
 /// (`torn_closed`). A change of other files leaves the log as it is (`beside`).
 pub fn a_writer_keeps_its_log()
     ensures begun { (path : Path) (id : FileId) (format : LogFileFormat) (old new : Directory)
@@ -133,9 +133,9 @@ pub fn a_writer_keeps_its_log()
         → HasLog path id format batches synced at old → HasLog path id format batches synced at n }
 {}
 
-/// A log file that is closed is sealed (`sealed`): a crash leaves all of it, with no premise on
-/// damage (`left`), and it stays sealed after a crash (`restarted`), while other files change
-/// (`beside`), and at each moment of a further closing (`closing`).
+/// A closed log file is sealed (`sealed`): a crash leaves all of it, with no premise on damage
+/// (`left`). It stays sealed after a crash (`restarted`), while other files change (`beside`), and
+/// at each moment of a further closing (`closing`).
 pub fn a_sealed_file_stays()
     ensures left { (path : Path) (id : FileId) (batches : List Batch) (n : Directory)
         → IsSealed path id batches n → (d : CrashImage) → Leaves n d
@@ -156,12 +156,12 @@ pub fn a_sealed_file_stays()
         → IsSealed path id batches n × (bytes_at path n ≡ bytes_at path old) }
 {}
 
-/// An opening loses nothing of a log file: while the file is made, while it is cut where its
-/// reading ends, and while a header is written into an empty file, a crash leaves what it could
-/// leave before. Cut and synced, the file is a log with all batches that can be read of it. A log
-/// file that is renamed may hold what it held: nothing of that is found under the new name
-/// (`renamed`), also while a new header is written over it (`reusing`). Once that is synced the
-/// file is a log without batches (`reused`).
+/// An opening loses nothing of a log file. While the file is made, while it is cut at the end of
+/// its reading, and while a header is written into an empty file, a crash leaves what it could
+/// leave before. Cut and synced, the file is a log with all its readable batches. A renamed log
+/// file may hold its old bytes: none of these is found under the new name (`renamed`), also while a
+/// new header is written over it (`reusing`). When that is synced the file is a log without batches
+/// (`reused`).
 pub fn opening_keeps_the_log()
     ensures created { (path : Path) (id : FileId) (batches : List Batch) (synced : ℕ)
         (old n : Directory) → RecoversPrefixAt path id batches synced old → IsOneOf old

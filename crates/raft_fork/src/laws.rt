@@ -8,10 +8,11 @@ ghost use Rattle.raft_pipes.specs.Folder.{AreClear, readable_queue};
 ghost use Rattle.raft_pipes.specs.Numbered.{AreSingle};
 ghost use Rattle.raft_fork.specs.Fork.{AreThereOrEmpty, HasNoLogIn, IsForkOf, IsForking, IsFree, mark_in};
 
-/// A fork has, with the target as its one folder, what its source had: no folder's place is taken (`clear`), no number
-/// stands in two (`single`), and of each queue the same batches can be read (`reads`). So both stand for the same contents
-/// (`contents`) and know the same groups (`known`), which is what an opening finds in them. Of the source's folders each is
-/// there, as `FileSystem::is_dir` tells before the fork, or else no log file stands in it.
+/// A fork has, with the target as its one folder, what its source had: no folder's place is taken
+/// (`clear`), no number occurs in two (`single`), and the same batches can be read from each queue
+/// (`reads`). So both have the same contents (`contents`) and know the same groups (`known`), and
+/// an opening finds these. Each of the source's folders exists, by `FileSystem::is_dir` before the
+/// fork, or has no log file.
 pub fn a_fork_reads_as_its_source()
     ensures clear { (source : Folders) (target : Path) (n m : Directory)
         → IsForkOf source target n m
@@ -34,8 +35,8 @@ pub fn a_fork_reads_as_its_source()
         ≡ known_at source n group }
 {}
 
-/// At each moment of a fork into a free target, as `fork` tells them: no log file stands in the target, or the mark does,
-/// or the fork is whole.
+/// At each moment of a fork into a free target, by the clauses of `fork`: the target has no log
+/// file, or it has the mark, or the fork is whole.
 pub fn a_fork_under_way_is_marked()
     ensures { (source : Folders) (target : Path) (n m : Directory) → IsFree target n
         → IsForking source target n m

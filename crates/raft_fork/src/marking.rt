@@ -1,4 +1,4 @@
-//! The mark that stands in a fork's target until all copies are there.
+//! The mark in a fork's target until all copies are there.
 ghost use Rattle.std.specs.Prelude.{◌≡◌, None, map, IfErr, IfOk, OnErr, OnOk};
 ghost use Rattle.std.specs.String.{string_bytes};
 ghost use Rattle.raft_base.specs.declared.errors.Fault.TheVariants.{Memory};
@@ -14,7 +14,7 @@ use raft_env::FileSystem;
 use raft_records::Fault;
 use std::alloc::Global;
 
-/// The name of the file that stands in a fork's target until the fork has ended. No log file has it.
+/// The name of the file that a fork's target has until the fork has ended. No log file has it.
 pub const FORK_MARK: &str = "FORKING";
 
 // The path of the mark in a folder.
@@ -28,7 +28,7 @@ fn mark_path(alloc: Global, folder: &str) -> Result<String, Fault>
     Ok(format!(in alloc; "{folder}/{FORK_MARK}")?)
 }
 
-/// Fails where the mark of another fork stands in the target.
+/// Fails if the target has the mark of another fork.
 pub(crate) fn refuse_mark<F: FileSystem>(
     alloc: Global,
     target: &str,
@@ -44,8 +44,8 @@ pub(crate) fn refuse_mark<F: FileSystem>(
     Ok(())
 }
 
-/// Copies the files as `copy_files` does, between the making of the target's mark and its removal. A refusal leaves the
-/// mark with the copies made so far.
+/// Copies the files as `copy_files` does, between the making of the target's mark and its removal.
+/// After a failure the mark and the copies made until then remain.
 pub(crate) fn copy_marked<F: FileSystem>(
     alloc: Global,
     files: &[SourceFile],

@@ -18,10 +18,10 @@ ghost use Rattle.raft_index_laws.specs.Standing.{TablesStandFor};
 ghost use Rattle.raft_index_laws.specs.Gathering.{IsFetchedContent, IsGathered, SetApart, key_set_by, value_items};
 ghost use Rattle.raft_index_laws.specs.Rewriting.{IsFetched, placed_entries_item};
 
-/// What may move of the entries of a group is what a purge fetches of it (`fetched`). Of what was
-/// fetched of the Append queue a beginning may be written first (`beginning`); once it got its new
-/// places, what is left is fetched still, whatever was written of other groups before it (`left`).
-/// What is written of other groups leaves a group's table as it is (`elsewhere`).
+/// A purge fetches exactly those entries of a group that may move (`fetched`). A beginning of the
+/// fetched entries of the Append queue may be written first (`beginning`). After it got its new
+/// places, the rest is still fetched, whatever was written of other groups before (`left`). What is
+/// written of other groups leaves a group's table as it is (`elsewhere`).
 pub fn entries_are_fetched_to_be_written()
     ensures fetched { (blocks : Blocks) (x : Contents) (appended : List FileBatch) (owed : Owed)
         (t : Tables) (watermark : Option ℕ) (group : ℕ) → TablesStandFor blocks x appended owed t
@@ -46,10 +46,10 @@ pub fn entries_are_fetched_to_be_written()
         → tables_moved watermark id t items group ≡ t group }
 {}
 
-/// Items are gathered one behind the other (`none`, `more`), each of which sets something else than
-/// those before it: as an item of another group does (`other_group`), and one of the same group that
-/// sets another key, or a key where that sets entries (`other_key`). All values that were fetched of a
-/// group are gathered behind what sets no key of it (`values`).
+/// Items are gathered one after the other (`none`, `more`), and each sets something that those
+/// before it do not: an item of another group (`other_group`), or one of the same group that sets
+/// another key, or a key if the other sets entries (`other_key`). All fetched values of a group are
+/// gathered after items that set no key of it (`values`).
 pub fn items_are_gathered_one_by_one()
     ensures none { (watermark : Option ℕ) (owed : Owed) (t : Tables)
         → IsGathered watermark owed t [] }

@@ -1,4 +1,4 @@
-//! What an atomic group of batches changes of both queues, and which ids the Rewrite queue has.
+//! What an atomic group of batches changes in both queues, and which ids the Rewrite queue has.
 ghost use Rattle.std.specs.Prelude.{◌≡◌, ◌+◌, ◌++◌, ◌∷◌, ℕ, List, [], None, true, flat_map, map};
 ghost use Rattle.std.specs.List.{list_all};
 ghost use Rattle.raft_base.specs.declared.pipe_log.LogQueue.TheVariants.{Rewrite};
@@ -24,10 +24,10 @@ ghost use Rattle.raft_index_laws.specs.AtomicGroup.{bodies_in, ended_group, last
 ghost use Rattle.raft_index_laws.specs.Gathering.{IsGathered};
 ghost use Rattle.raft_index_laws.specs.Rewriting.{IsFetched, entries_item};
 
-/// All that a group has in the Rewrite queue may be written in the batches of an atomic group. While
-/// it isn't ended each next batch is taken and changes nothing (`open`); its last one is taken where
-/// all parts together and the values were gathered (`takes`), and where all got their new places, the
-/// tables stand (`ended`).
+/// Everything that a group has in the Rewrite queue may be written in the batches of an atomic
+/// group. Until its end each next batch is taken and changes nothing (`open`). Its last one is
+/// taken if all parts and the values were gathered (`takes`), and if all got their new places, the
+/// tables fit (`ended`).
 pub fn an_atomic_group_may_be_written()
     ensures open { (blocks : Blocks) (numbered : List FileBatch) (owed : Owed) (t : Tables)
         (q : Queues) (id group : ℕ) (parts : List (List (ℕ × EntryPlace)))
@@ -67,9 +67,10 @@ pub fn an_atomic_group_may_be_written()
         }) }
 {}
 
-/// Which ids the Rewrite queue has, and that the batches of each atomic group stand together in it: as
-/// they were read (`read`), after a batch without a mark (`unmarked`) and after a whole group (`group`),
-/// and without the first batches (`fewer`). A new group has an id from the bound on (`begun`).
+/// Which ids the Rewrite queue has, and that the batches of each atomic group are together in it:
+/// as they were read (`read`), after a batch without a mark (`unmarked`) and after a whole group
+/// (`group`), and without the first batches (`fewer`). A new group has an id from the bound on
+/// (`begun`).
 pub fn ids_and_groups_of_the_rewrite_queue()
     ensures read { (bound : ℕ) (batches : List Batch) → AreIdsBelow bound batches
         → HasIdsBelow bound batches }

@@ -1,4 +1,4 @@
-//! Which groups what is written again leaves known.
+//! Which groups remain known after a rewriting.
 ghost use Rattle.std.specs.Prelude.{◌≡◌, ◌⊎◌, ◌++◌, ◌∷◌, ℕ, List, [], Option, None, true, is_some, map};
 ghost use Rattle.raft_records.specs.declared.entry_index.EntryPlace.{EntryPlace};
 ghost use Rattle.raft_records.specs.Item.{Batch};
@@ -13,9 +13,9 @@ ghost use Rattle.raft_tables.specs.Tables.{Tables};
 ghost use Rattle.raft_index_laws.specs.AtomicGroup.{bodies_in, last_body, marked, next_mark, open_group, set_by_parts};
 ghost use Rattle.raft_index_laws.specs.Gathering.{IsGathered};
 
-/// What is written to the Rewrite queue again leaves no group known that the tables don't know: a
-/// gathered batch (`gathered`) and the last one of an atomic group (`ended`); one that isn't the last
-/// changes nothing of it (`open`).
+/// What is written to the Rewrite queue again leaves no group known that the tables do not know: a
+/// gathered batch (`gathered`) and the last one of an atomic group (`ended`); one that is not the
+/// last changes nothing of it (`open`).
 pub fn groups_that_are_written_again_are_known()
     ensures gathered { (blocks : Blocks) (watermark : Option ℕ) (owed : Owed) (t : Tables)
         (items : List PlacedItem) (batches : List Batch) (group : ℕ)

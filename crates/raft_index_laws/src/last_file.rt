@@ -1,4 +1,4 @@
-//! In which files of the Rewrite queue something stands.
+//! Which files of the Rewrite queue the tables refer to.
 ghost use Rattle.std.specs.Prelude.{◌≤◌, ◌<◌, ℕ, List, Option};
 ghost use Rattle.std.specs.List.{AllByRecursion as Each};
 ghost use Rattle.raft_base.specs.declared.pipe_log.LogQueue.TheVariants.{Append, Rewrite};
@@ -12,10 +12,11 @@ ghost use Rattle.raft_tables.specs.Tables.{Tables, tables_after, tables_of};
 ghost use Rattle.raft_tables.specs.declared.memtables.MemTables.{MemTables};
 ghost use Rattle.raft_index_laws.specs.DroppingOld.{AreRewrittenBefore};
 
-/// Nothing stands in a file of the Rewrite queue from a number on, as behind its last file: so it is of
-/// the tables of batches in files before it (`whole`), after items of the Append queue (`applied`), in
-/// what these leave (`left`) and in both joined (`joined`); and after new places in a file before it
-/// (`moved`). So it is of each later number (`later`).
+/// The tables refer to nothing in files of the Rewrite queue from a number on, for example after
+/// its last file. That holds for the tables of batches in files before it (`whole`), after items of
+/// the Append queue (`applied`), for the part that these leave (`left`) and for both joined
+/// (`joined`); and after new places in a file before it (`moved`). So it holds for each later
+/// number (`later`).
 pub fn nothing_is_placed_behind_the_last_file()
     ensures whole { (first : ℕ) (batches : List PlacedBatch) (m : MemTables) → AreWhole batches m
         → Each (λ b. (b.0.seq < first) × Each (λ item. AreInFile Rewrite b.0.seq item.content) b.1)

@@ -1,4 +1,4 @@
-//! What holds of the tables, the marks that are owed and both queues: at an opening, and after a write.
+//! What holds for the tables, the owed marks and both queues: at an opening, and after a write.
 ghost use Rattle.std.specs.Prelude.{◌≡◌, ◌≤◌, ◌++◌, ◌∷◌, ℕ, List, [], true, None, map};
 ghost use Rattle.std.specs.List.{list_all, AllByRecursion as Each};
 ghost use Rattle.raft_base.specs.declared.pipe_log.FileId.{FileId};
@@ -20,8 +20,8 @@ ghost use Rattle.raft_tables.specs.Owed.{Owed, no_marks, owed_after, owed_noted}
 ghost use Rattle.raft_records.specs.FileBatches.{AreInFile, FileBatch, batches_of};
 ghost use Rattle.raft_index_laws.specs.Standing.{TablesStandFor};
 
-/// A valid batch that is written to the last file of the Append queue, and applied to the tables and
-/// the marks, keeps them standing.
+/// After a valid batch is written to the last file of the Append queue, and applied to the tables
+/// and the marks, these still fit.
 pub fn a_write_keeps_tables_standing()
     ensures written { (blocks : Blocks) (x : Contents) (appended : List FileBatch) (owed : Owed)
         (t : Tables) (seq : ℕ) (items : List PlacedItem) → HasConsecutiveEntries x
@@ -44,7 +44,7 @@ pub fn a_valid_batch_notes_its_marks()
         → owed_after id t items owed ≡ owed_noted owed items }
 {}
 
-/// An opening gives tables that stand, whatever both queues hold: it begins with the tables of the
+/// An opening returns tables that fit, whatever both queues hold. It begins with the tables of the
 /// Rewrite queue and no marks (`begun`), replays the Append queue's batches over them, file by file
 /// (`replayed`), and joins both (`joined`).
 pub fn an_opening_gives_standing_tables()
@@ -68,7 +68,7 @@ pub fn an_opening_gives_standing_tables()
         → TablesStandFor blocks x appended owed joined }
 {}
 
-/// The tables of batches that stand in files of the Rewrite queue place all there.
+/// The tables of batches in files of the Rewrite queue place everything there.
 pub fn rewritten_batches_place_all_there()
     ensures whole { (batches : List PlacedBatch) (m : MemTables) → AreWhole batches m
         → list_all (λ b. is_rewrite b.0.queue) batches ≡ true

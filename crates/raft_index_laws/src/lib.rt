@@ -1,4 +1,5 @@
-//! Laws of an index that stands for the queues' contents: what writes, openings and rewritings make of it.
+//! Laws of an index that represents the queues' contents: what writes, openings and rewritings make
+//! of it.
 #![tactic(auto)]
 
 pub mod gathering;

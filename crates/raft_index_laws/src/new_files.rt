@@ -1,4 +1,4 @@
-//! New files of the Rewrite queue that hold all that stands in it, and old ones that may go.
+//! New files of the Rewrite queue that hold everything in it, and old ones that may go.
 ghost use Rattle.std.specs.Prelude.{◌≡◌, ◌≤◌, ◌+◌, ◌++◌, ◌∷◌, ℕ, List, [], None, true, map};
 ghost use Rattle.std.specs.List.{list_all};
 ghost use Rattle.raft_base.specs.declared.pipe_log.LogQueue.TheVariants.{Rewrite};
@@ -23,9 +23,9 @@ ghost use Rattle.raft_index_laws.specs.DroppingOld.{AreRewrittenBefore, AreRewri
 ghost use Rattle.raft_index_laws.specs.Gathering.{IsGathered};
 ghost use Rattle.raft_index_laws.specs.NewFiles.{HasNewFiles};
 
-/// While a purge writes all that stands in the Rewrite queue to new files of it, these hold what is
-/// placed there: after the rotation (`rotated`), a gathered batch (`written`), a batch of an atomic
-/// group (`open`) and the last one of it (`ended`).
+/// While a purge writes the whole Rewrite queue to new files of it, these hold what is placed
+/// there: after the rotation (`rotated`), a gathered batch (`written`), a batch of an atomic group
+/// (`open`) and the last one of it (`ended`).
 pub fn new_files_hold_what_was_written()
     ensures rotated { (blocks : Blocks) (t : Tables) (q : Queues) (first bound : ℕ)
         → AreRewrittenBefore first t → StandTogether (q.rewritten ++ q.rewritten_since)
@@ -67,9 +67,9 @@ pub fn new_files_hold_what_was_written()
         }) }
 {}
 
-/// Old files of the Rewrite queue in which nothing stands may be dropped where the new ones hold what
-/// is placed in them and all is synced: the same is found without the first of them (`can`), and the
-/// tables stand (`gone`).
+/// Unreferenced old files of the Rewrite queue may be dropped if the new ones hold what is placed
+/// in them and everything is synced: the same is found without the first of them (`can`), and the
+/// tables fit (`gone`).
 pub fn the_rewrite_queue_may_lose_old_files()
     ensures can { (blocks : Blocks) (numbered : List FileBatch) (owed : Owed) (t : Tables)
         (q : Queues) (first bound : ℕ) (old new : List Batch)

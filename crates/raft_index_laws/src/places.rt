@@ -1,4 +1,4 @@
-//! Where the items of a record stand.
+//! The places of the items of a record.
 ghost use Rattle.std.specs.Prelude.{◌≡◌, ℕ, Some, true};
 ghost use Rattle.std.specs.List.{list_all, AllByRecursion as Each};
 ghost use Rattle.raft_base.specs.declared.pipe_log.FileBlockHandle.{FileBlockHandle};
@@ -9,8 +9,8 @@ ghost use Rattle.raft_records.specs.Layout.{place_items};
 ghost use Rattle.raft_records.specs.PlacedItem.{are_all_placed};
 ghost use Rattle.raft_tables.specs.Counters.{is_rewritten};
 
-/// The items of a record stand in the file of its block (`in_file`); so in the Rewrite queue, if that
-/// does (`rewritten`).
+/// The items of a record are in the file of its block (`in_file`), so in the Rewrite queue if that
+/// is (`rewritten`).
 pub fn items_of_a_record_stand_in_its_file()
     ensures in_file { (block : FileBlockHandle) (offset : ℕ) (batch : Batch)
         → Each (λ item. AreInFile block.id.queue block.id.seq item.content)

@@ -1,4 +1,4 @@
-//! What holds of the tables, the marks that are owed and both queues, step by step of a purge.
+//! What holds for the tables, the owed marks and both queues, step by step of a purge.
 ghost use Rattle.std.specs.Prelude.{◌≡◌, ◌≤◌, ◌++◌, ◌∷◌, ℕ, Bool, List, [], Option, true, false, None, Some, filter, flat_map, fold, is_some, map};
 ghost use Rattle.std.specs.List.{list_all, AllByRecursion as Each};
 ghost use Rattle.raft_base.specs.declared.pipe_log.FileId.{FileId};
@@ -24,9 +24,9 @@ ghost use Rattle.raft_index_laws.specs.Rewriting.{ArePart, IsMarkIndex, MayAllBe
 ghost use Rattle.raft_records.specs.FileBatches.{FileBatch, batches_of, from_file};
 ghost use Rattle.raft_index_laws.specs.Standing.{AreEntriesPlacedFrom, AreInFileOrder, AreKeysPlacedFrom, EntryStands, OwesNothing, TablesStandFor};
 
-/// What may be written to the Rewrite queue again: a part of a group's entries, behind those that
-/// stand there (`entries`), and the value of a key (`value`). It changes nothing of what is
-/// recovered, and once it has its new place the tables stand.
+/// What may be written to the Rewrite queue again: a part of a group's entries, after those that
+/// are there (`entries`), and the value of a key (`value`). It changes nothing of what is
+/// recovered, and after it has its new place the tables fit.
 pub fn rewriting_keeps_tables_standing()
     ensures entries { (blocks : Blocks) (x : Contents) (appended : List FileBatch) (owed : Owed)
         (t : Tables) (watermark : Option ℕ) (id : FileId) (group : ℕ) (n : ℕ × EntryPlace)
@@ -81,9 +81,9 @@ pub fn a_rewritten_batch_keeps_tables_standing()
         (tables_moved watermark (record { queue = Rewrite; seq = seq }) t items) }
 {}
 
-/// Marks that are owed may be written, and are owed no more: a delete of a key that isn't there
-/// (`deleted`), a compaction to the first index that is there, or to one above all (`compacted`), and
-/// a clean (`cleaned`).
+/// Owed marks may be written, and are then owed no more: a delete of a key that does not exist
+/// (`deleted`), a compaction to the first existing index, or to one above all (`compacted`), and a
+/// clean (`cleaned`).
 pub fn marks_keep_tables_standing()
     ensures deleted { (blocks : Blocks) (x : Contents) (appended : List FileBatch) (owed : Owed)
         (t : Tables) (group : ℕ) (key : List ℕ) → (or_empty (t group)).keys key ≡ None
@@ -109,8 +109,8 @@ pub fn marks_keep_tables_standing()
         (with_marks group (without_clean (owed group)) owed) t }
 {}
 
-/// Files of the Append queue may be dropped where no mark is owed and nothing is placed in them: the
-/// same is recovered without them (`same`), and the tables stand (`gone`).
+/// Files of the Append queue may be dropped if no mark is owed and nothing is placed in them: the
+/// same is recovered without them (`same`), and the tables fit (`gone`).
 pub fn a_dropped_front_keeps_tables_standing()
     ensures same { (blocks : Blocks) (rewritten : List Batch) (appended : List FileBatch)
         (front : List Batch) (owed : Owed) (t : Tables) (first : ℕ)
@@ -129,8 +129,9 @@ pub fn a_dropped_front_keeps_tables_standing()
         → TablesStandFor blocks (effect rewritten) (from_file first appended) owed t }
 {}
 
-/// While all groups are written to new files of the Rewrite queue again, these hold what is placed in
-/// them: after all that a group has there was written (`entries`), and after a value (`value`).
+/// While all groups are written to new files of the Rewrite queue again, these hold what is placed
+/// in them: after everything that a group has there was written (`entries`), and after a value
+/// (`value`).
 pub fn new_files_hold_what_is_placed_there()
     ensures entries { (blocks : Blocks) (first : ℕ) (x : Contents) (t : Tables)
         (watermark : Option ℕ) (id : FileId) (group : ℕ) (n : ℕ × EntryPlace)
@@ -148,9 +149,9 @@ pub fn new_files_hold_what_is_placed_there()
         (record { group = group; content = Plain (Put key value) })) }
 {}
 
-/// Old files of the Rewrite queue may be dropped where nothing is placed in them and the new ones
-/// hold all that is placed there: then these hold what the Append queue leaves alone (`held`), and
-/// the tables stand without the old ones (`gone`).
+/// Old files of the Rewrite queue may be dropped if nothing is placed in them and the new ones hold
+/// everything that is placed there: then these hold what the Append queue leaves (`held`), and the
+/// tables fit without the old ones (`gone`).
 pub fn dropped_old_files_keep_tables_standing()
     ensures held { (blocks : Blocks) (x new : Contents) (appended : List FileBatch) (owed : Owed)
         (t : Tables) (first : ℕ) → HoldsFrom blocks first new t → AreRewrittenFrom first t
@@ -162,8 +163,8 @@ pub fn dropped_old_files_keep_tables_standing()
         → TablesStandFor blocks x appended owed t → TablesStandFor blocks new appended owed t }
 {}
 
-/// Nothing is placed in the Append queue before its first file in which something stands, or before
-/// the number that this is at most (`first`); so it is of the Rewrite queue (`rewritten`).
+/// Nothing is placed in the Append queue before its first referenced file, or before a given number
+/// if that is less (`first`). The same holds for the Rewrite queue (`rewritten`).
 pub fn nothing_stands_before_the_first_file()
     ensures first { (at_most : ℕ) (m : MemTables)
         → AreEntriesPlacedFrom (first_of_tables Append at_most m) (tables_of m)
@@ -174,8 +175,8 @@ pub fn nothing_stands_before_the_first_file()
         × (first_of_tables Rewrite at_most m ≤ at_most) }
 {}
 
-/// Of tables in which items got their new places the same groups are known (`known`), and what is
-/// true of the places of the items and of those that stood is true of those that stand (`places`).
+/// Tables in which items got their new places know the same groups (`known`). What holds for the
+/// places of the items and for the old places holds for the places now (`places`).
 pub fn moved_tables_know_the_same_groups()
     ensures known { (watermark : Option ℕ) (id : FileId) (t : Tables) (items : List PlacedItem)
         (group : ℕ) → is_some (tables_moved watermark id t items group) ≡ is_some (t group) }

@@ -1,4 +1,4 @@
-//! What holds of the tables and the marks, in terms of both queues, step by step of a purge.
+//! What holds for the tables and the marks, in terms of both queues, step by step of a purge.
 ghost use Rattle.std.specs.Prelude.{◌≡◌, ◌≤◌, ◌+◌, ◌++◌, ◌∷◌, ℕ, List, [], Option, None, true, map};
 ghost use Rattle.std.specs.List.{list_all};
 ghost use Rattle.raft_base.specs.declared.pipe_log.LogQueue.TheVariants.{Rewrite};
@@ -18,8 +18,8 @@ ghost use Rattle.raft_index_laws.specs.ForQueues.{StandForQueues};
 ghost use Rattle.raft_index_laws.specs.Standing.{AreEntriesPlacedFrom, AreKeysPlacedFrom, OwesNothing};
 ghost use Rattle.raft_index_laws.specs.Gathering.{IsGathered};
 
-/// What was gathered may be written in one batch: the Rewrite queue takes it (`takes`), and where it
-/// stands there and got its new places, the tables stand (`written`). It doesn't begin with the mark of
+/// The gathered items may be written in one batch: the Rewrite queue takes it (`takes`). After it
+/// is there and got its new places, the tables fit (`written`). It does not begin with the mark of
 /// an atomic group (`unmarked`).
 pub fn a_gathered_batch_may_be_written()
     ensures takes { (blocks : Blocks) (numbered : List FileBatch) (owed : Owed) (t : Tables)
@@ -41,9 +41,9 @@ pub fn a_gathered_batch_may_be_written()
         → mark_of (map (item_in blocks) items) ≡ None }
 {}
 
-/// Marks that are owed may be written in one batch: the Rewrite queue takes it (`takes`), and where it
-/// stands there they are owed no more (`written`). A delete of a key that is there again may be
-/// forgotten (`forgotten`).
+/// Owed marks may be written in one batch: the Rewrite queue takes it (`takes`), and after it is
+/// there they are owed no more (`written`). A delete of a key that exists again may be forgotten
+/// (`forgotten`).
 pub fn owed_marks_may_be_written()
     ensures takes { (blocks : Blocks) (numbered : List FileBatch) (owed : Owed) (t : Tables)
         (q : Queues) (marks : List Item) → StandForQueues blocks numbered owed t q
@@ -57,8 +57,8 @@ pub fn owed_marks_may_be_written()
         → StandForQueues blocks numbered (λ group. without_pending (owed group)) t q }
 {}
 
-/// Files of the Append queue in which nothing stands may be dropped where nothing is owed and all is
-/// synced: the same is found without them (`can`), and the tables stand without the first of them
+/// Unreferenced files of the Append queue may be dropped if nothing is owed and everything is
+/// synced: the same is found without them (`can`), and the tables fit without the first of them
 /// (`gone`).
 pub fn the_append_queue_may_lose_a_front()
     ensures can { (blocks : Blocks) (numbered : List FileBatch) (owed : Owed) (t : Tables)

@@ -1,4 +1,4 @@
-//! What holds of the tables and the marks, in terms of both queues: an opening, writes and syncs.
+//! What holds for the tables and the marks, in terms of both queues: an opening, writes and syncs.
 ghost use Rattle.std.specs.Prelude.{◌≡◌, ◌≤◌, ◌^◌, ◌-◌, ◌++◌, ◌∷◌, ℕ, List, [], true, map};
 ghost use Rattle.std.specs.List.{list_all, AllByRecursion as Each};
 ghost use Rattle.raft_base.specs.declared.pipe_log.FileId.{FileId};
@@ -18,7 +18,7 @@ ghost use Rattle.raft_tables.specs.Tables.{Tables, contents_in, or_empty, tables
 ghost use Rattle.raft_index_laws.specs.ForQueues.{StandForQueues};
 ghost use Rattle.raft_index_laws.specs.Standing.{TablesStandFor};
 
-/// Tables that stand for what an opening read of both queues stand for them, all of which it synced
+/// If tables fit what an opening read of both queues, they fit both queues after it synced them
 /// (`opened`). What it read in order of the Rewrite queue has no greatest index (`below`).
 pub fn an_opening_gives_tables_that_stand_for_the_queues()
     ensures opened { (blocks : Blocks) (rewritten : List Batch) (numbered : List FileBatch)
@@ -31,7 +31,7 @@ pub fn an_opening_gives_tables_that_stand_for_the_queues()
         → AreItemsBelow (2 ^ 64 - 1) (items_of (batches_in blocks batches)) }
 {}
 
-/// What is done to the Append queue keeps the tables and the marks standing: a valid batch that is
+/// These changes of the Append queue keep the tables and the marks fitting: a valid batch that is
 /// written to its last file, applied and noted (`written`), and a sync of it (`synced`) or of the
 /// Rewrite queue (`rewritten_synced`).
 pub fn writes_and_syncs_keep_tables_standing()
@@ -54,8 +54,9 @@ pub fn writes_and_syncs_keep_tables_standing()
         (record q { rewritten = q.rewritten ++ q.rewritten_since; rewritten_since = [] }) }
 {}
 
-/// Blocks with the same bytes where the tables' entries stand are as good (`other_blocks`), so blocks
-/// of dropped files don't matter. Where the Rewrite queue is empty no mark is needed (`unowed`).
+/// Blocks with the same bytes at the places of the tables' entries are as good (`other_blocks`), so
+/// blocks of dropped files do not matter. If the Rewrite queue is empty no mark is needed
+/// (`unowed`).
 pub fn tables_stand_without_what_they_do_not_need()
     ensures other_blocks { (old new : Blocks) (numbered : List FileBatch) (owed : Owed)
         (t : Tables) (q : Queues)

@@ -1,4 +1,4 @@
-//! Whole records behind the place at which a log file is broken.
+//! Whole records after the place at which a log file is broken.
 ghost use Rattle.std.specs.Prelude.{◌≡◌, true, false, None, length, IfErr, IfOk};
 ghost use Rattle.raft_base.specs.declared.errors.Fault.TheVariants.{Memory};
 ghost use Rattle.raft_base.specs.FileId.{file_signature};
@@ -10,22 +10,21 @@ ghost use Rattle.raft_inspect.specs.declared.behind.Behind.TheVariants.{Nothing,
 use raft_records::{Fault, FileId, LogFileContext, Version, decode_header, decode_record};
 use std::alloc::Global;
 
-/// A search is given up once so many bytes of what may be records were read; the last of these may
-/// pass the bound.
+/// A search ends after so many bytes of possible records; the last of these may pass the bound.
 const MOST_BYTES: usize = 256 * 1024 * 1024;
 
-/// What a search behind a break found.
+/// The result of a search after a break.
 #[derive(Clone, Copy, Debug, PartialEq, Eq)]
 pub enum Behind {
     Nothing,
     /// A whole record of the file.
     Record,
-    /// None so far; not all was searched.
+    /// None until now; not everything was searched.
     Unsearched,
 }
 
 /// Searches bytes of a file at every place for a whole record that was written to it: of this
-/// version, or of any where its header can't be read.
+/// version, or of any if its header cannot be read.
 pub fn search_behind(
     alloc: Global,
     id: FileId,

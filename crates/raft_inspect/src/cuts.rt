@@ -23,23 +23,23 @@ use std::alloc::{AllocError, Global};
 pub struct Cut {
     pub id: FileId,
     pub path: String,
-    /// Where what is cut off begins, and how many bytes it has.
+    /// The place at which the cut bytes begin, and how many there are.
     pub offset: usize,
     pub len: usize,
-    /// Whether they are called stale: then a record of an earlier file stands in them.
+    /// Whether they are called stale: then they hold a record of an earlier file.
     pub stale: bool,
     /// Whether the file is the last one of its queue.
     pub is_last: bool,
-    /// The version of the file's records; none where its header can't be read.
+    /// The version of the file's records; none if its header cannot be read.
     version: Option<Version>,
 }
 
-/// Why an unsynced tail doesn't explain what is cut off.
+/// Why an unsynced tail does not explain the cut bytes.
 #[derive(Clone, Copy, Debug, PartialEq, Eq)]
 pub enum Unexplained {
-    /// Whole records stand behind the break.
+    /// Whole records follow the break.
     Records,
-    /// So many bytes stand there that not all were searched for a record.
+    /// There are so many bytes that not all were searched for a record.
     Unsearched,
     /// The file isn't the last one of its queue.
     Earlier,
@@ -130,7 +130,7 @@ impl Cut {
 }
 
 impl QueueFiles {
-    /// Adds what an opening in a mode, where it doesn't fail, cuts off of the files that it keeps.
+    /// Adds what an opening in a mode cuts off the files that it keeps, if it does not fail.
     pub(crate) fn add_cuts(&self, mode: RecoveryMode, cuts: &mut Vec<Cut>) -> Result<(), AllocError>
         ensures value { OnOk result (map place_of cuts.new.items ≡ map place_of cuts.old.items
             ++ cuts_in mode (drop self.now.passed self.now.files.items)
@@ -154,8 +154,8 @@ impl QueueFiles {
     }
 }
 
-/// What an opening in a mode cuts off of the files of a queue; nothing where it fails. Zeros that were made ahead hold
-/// nothing, and aren't told.
+/// What an opening in a mode cuts off the files of a queue; nothing if it fails. Zeros that were
+/// allocated ahead hold nothing, and are not reported.
 pub fn cuts_of(alloc: Global, found: &QueueFiles, mode: RecoveryMode) -> Result<Vec<Cut>, Fault>
     ensures fails { IfOk result (λ cuts. IsFailing mode found.now → map place_of cuts.items ≡ []) }
     ensures cuts { IfOk result (λ cuts. ¬ IsFailing mode found.now → map place_of cuts.items

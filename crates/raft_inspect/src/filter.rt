@@ -1,4 +1,4 @@
-//! Which items of log files are told.
+//! Which items of log files are reported.
 
 use raft_records::{Command, KeyValue};
 
@@ -43,8 +43,8 @@ impl ItemKind {
     }
 }
 
-/// A group, a kind, and the first and the last index of entries and compactions. What isn't named is
-/// any, but that items without an index are none where an index is named.
+/// A group, a kind, and the first and the last index of entries and compactions. A part that is not
+/// named accepts anything; but if an index is named, items without an index are left out.
 #[derive(Clone, Copy)]
 pub struct Filter {
     pub group: Option<u64>,
@@ -62,7 +62,7 @@ impl Filter {
         to: None,
     };
 
-    /// Whether an item of a group is told.
+    /// Whether an item of a group is reported.
     pub fn takes(self, group: u64, kind: ItemKind, index: Option<u64>) -> bool {
         let is_group = match self.group {
             Some(wanted) => wanted == group,

@@ -12,8 +12,8 @@ use raft_records::{
 };
 use std::alloc::Global;
 
-/// Adds a line for an item, and for each of its entries, where the filter takes them; the entries' bytes are read from
-/// the file.
+/// Adds a line for an item, and for each of its entries, if the filter accepts them; the entries'
+/// bytes are read from the file.
 pub fn add_item<F: FileSystem>(
     alloc: Global,
     file_system: &mut F,

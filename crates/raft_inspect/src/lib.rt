@@ -1,5 +1,5 @@
-//! What the files of a log tell of it: what an opening would do with them, lines of what they hold, and a picture. Over
-//! values and file systems, without the engine.
+//! What the files of a log say about it: what an opening would do with them, lines of their
+//! contents, and a picture. Over values and file systems, without the engine.
 #![tactic(auto)]
 
 mod behind;

@@ -23,7 +23,7 @@ pub struct Lines {
     bytes: Vec<u8>,
     json: bool,
     hex: bool,
-    /// Whether memory was wanting for what is being added.
+    /// Whether memory ran out for the line that is being added.
     failed: bool,
 }
 
@@ -48,7 +48,7 @@ impl Lines {
         self.bytes.clear();
     }
 
-    /// Adds a line of these words, with a tab between two of them. Their names stand in an object alone.
+    /// Adds a line of these words, with a tab between two of them. Only objects have their names.
     pub fn line(&mut self, fields: &[Field<'_>]) -> Result<(), AllocError> {
         if self.json {
             return self.object(fields);

@@ -21,7 +21,7 @@ use raft_records::{Fault, LogQueue};
 use std::alloc::{AllocError, Global};
 
 /// Log files of a queue that hold something and that an opening passes over, since a number is
-/// missing behind them.
+/// missing after them.
 #[derive(Clone, Copy, Debug, PartialEq, Eq)]
 pub struct Passed {
     pub queue: LogQueue,
@@ -43,9 +43,10 @@ pub struct Losses {
 }
 
 impl Losses {
-    /// What an opening with these settings loses of the log's files, found before it and with nothing changed: the bytes
-    /// that it cuts off, zeros that were made ahead left out, and the files that it passes over. It fails as `Io` where a
-    /// storage call failed, or as `Memory`.
+    /// What an opening with these settings would lose of the log's files, found before it and
+    /// without a change. These are the bytes that it would cut off, except zeros that were
+    /// allocated ahead, and the files that it would pass over. It fails with `Io` if a storage call
+    /// failed, or with `Memory`.
     pub fn find<F: FileSystem>(
         alloc: Global,
         config: &Config,

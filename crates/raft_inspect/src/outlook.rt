@@ -11,12 +11,12 @@ use std::alloc::Global;
 pub struct Outlook {
     /// Whether it fails.
     pub fails: bool,
-    /// How many files it cuts, and how many bytes that may have told something.
+    /// How many files it cuts, and how many bytes that may have held something.
     pub files: u64,
     pub bytes: u64,
     /// How many zeros it cuts that were made ahead, and hold nothing.
     pub zeros: u64,
-    /// How many bytes it cuts that an earlier file left where this one stands.
+    /// How many bytes it cuts that an earlier use of the file left.
     pub stale: u64,
     /// How many files that hold something it passes over, and how many bytes they have.
     pub passed: u64,

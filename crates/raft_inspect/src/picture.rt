@@ -5,7 +5,7 @@ use crate::svg::{Area, Svg, share, size_text};
 use crate::usage::{FileUsage, GroupUsage, LogUsage, QueueUsage};
 use std::alloc::{AllocError, Global};
 
-/// The size of the picture, and where its rows begin, in pixels.
+/// The size of the picture, and the place of its rows, in pixels.
 const WIDTH: u64 = 1200;
 
 const HEIGHT: u64 = 470;
@@ -26,7 +26,7 @@ const LEGEND: u64 = 37_500;
 /// A file that is narrower has no number under it.
 const LABEL_WIDTH: u64 = 4_500;
 
-/// Of the largest groups.
+/// The colours of the largest groups.
 const COLORS: [&str; 10] = [
     "#4477aa", "#ee6677", "#228833", "#ccbb44", "#66ccee", "#aa3377", "#ee8866", "#44bb99",
     "#332288", "#997700",

@@ -22,7 +22,7 @@ pub struct QueueFiles {
     pub queue: LogQueue,
     pub files: Vec<LogFile>,
     pub checks: Vec<FileCheck>,
-    /// How many of them an opening passes over, since a number is missing behind them.
+    /// How many of them an opening passes over, since a number is missing after them.
     pub passed: usize,
 }
 
@@ -156,7 +156,8 @@ impl QueueFiles {
         self.files.get(self.passed..).unwrap_or(&[])
     }
 
-    /// The path of the last file, where it has no header and nothing but zeros, and another one stands before it.
+    /// The path of the last file, if it has no header and nothing but zeros, and another one
+    /// precedes it.
     pub fn empty_last(&self) -> Option<&str> {
         let last = self.kept_files().len().checked_sub(1)?;
         let check = self.kept_checks().get(last)?;
@@ -215,7 +216,7 @@ impl QueueFiles {
         Ok(plan.contains(&Planned::Fail) || self.is_doubled())
     }
 
-    /// The first file at which an opening in a mode fails, and where its reading ends.
+    /// The first file at which an opening in a mode fails, and the place at which its reading ends.
     pub fn failing(
         &self,
         alloc: Global,

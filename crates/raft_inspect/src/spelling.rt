@@ -4,7 +4,7 @@ ghost use Rattle.std.specs.Prelude.{◌<◌, ◌≤◌, IfSome, length};
 use std::alloc::{AllocError, AllocFailed, Global};
 use thiserror::Error;
 
-/// Why a text stands for no bytes.
+/// Why a text is not read as bytes.
 #[derive(Debug, Error, Drop)]
 pub enum Misspelled {
     #[error("out of memory")]
@@ -42,7 +42,7 @@ pub fn read_digits(alloc: Global, digits: &[u8]) -> Result<Vec<u8>, Misspelled> 
     Ok(bytes)
 }
 
-/// The bytes of a text in which `\x00` and the like stand for bytes.
+/// The bytes of a text in which `\x00` and the like mean bytes.
 pub fn read_text(alloc: Global, text: &[u8]) -> Result<Vec<u8>, Misspelled> {
     let mut bytes = Vec::new(alloc);
     let mut left = text;

@@ -3,7 +3,7 @@ ghost use Rattle.std.specs.Prelude.{◌≤◌};
 
 use std::alloc::{AllocError, Global};
 
-/// A picture that is being written. Lengths are hundredths of a pixel. Where memory is wanting
+/// A picture that is being written. Lengths are hundredths of a pixel. If memory runs out,
 /// something is left out, and `end` fails.
 #[derive(Drop)]
 pub(crate) struct Svg {
@@ -56,7 +56,7 @@ impl Svg {
         }
     }
 
-    /// A filled rectangle; a pointer that rests on it is told a text.
+    /// A filled rectangle, with a text for a pointer that rests on it.
     pub(crate) fn rect(&mut self, area: Area, fill: &str, told: &str) {
         self.add("<rect");
         self.length("x", area.x);

@@ -124,14 +124,14 @@ fn replay_all<F: FileSystem>(
     Ok(())
 }
 
-/// An item and the record that it stands in.
+/// An item and its record.
 #[derive(Drop)]
 struct Placed {
     item: LogItem,
     place: RecordPlace,
 }
 
-/// Reads files batch by batch; each file to where it is broken.
+/// Reads files batch by batch, each up to its first broken place.
 struct BatchReader<F: FileSystem> {
     alloc: Global,
     items: LogItemReader<F>,

@@ -8,7 +8,7 @@ use raft_tables::KeyAndValue;
 use std::io;
 use std::io::Write;
 
-/// What a line is answered with.
+/// The result of a line.
 #[derive(Drop)]
 pub(crate) enum Answer {
     Nothing,

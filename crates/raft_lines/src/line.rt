@@ -77,11 +77,11 @@ pub(crate) enum Call<'a> {
     },
     Groups,
     Sync,
-    /// All that stands in the Append queue is written again.
+    /// The whole Append queue is written again.
     RewriteAppend,
-    /// All that stands in the Rewrite queue is written again.
+    /// The whole Rewrite queue is written again.
     RewriteRewrite,
-    /// Files in front in which nothing stands go.
+    /// Unreferenced files in front are dropped.
     PurgeStale,
     /// What the queues need is rewritten, and files go.
     Purge,
@@ -150,8 +150,8 @@ impl Call<'_> {
 pub(crate) enum CrashChoice {
     All,
     Synced,
-    /// The bytes now, but of the places that were touched since the last sync only so many, the first ones, hold them;
-    /// the others hold the byte.
+    /// The bytes now, except in the places that were touched since the last sync: only so many of
+    /// these, the first ones, hold them; the others hold the byte.
     Torn(u64, u8),
 }
 

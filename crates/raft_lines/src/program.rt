@@ -48,8 +48,8 @@ type MemoryEngine = Engine<MemoryFileSystem>;
 
 type Opening = Result<MemoryEngine, Refused<MemoryFileSystem>>;
 
-/// Reads lines, does what each asks for over files in memory, and writes the answers.
-/// docs/ARCHITECTURE.md has the lines and their answers.
+/// Reads lines, does what each asks for over files in memory, and writes the results.
+/// crates/raftlog/README.md has the lines and their results.
 pub fn serve<R: Read + Drop, W: Write + Drop>(alloc: Global, reader: R, writer: W) -> Ended
     ensures lines { IfSome (R.remaining reader) (λ text. EndsOn text result) }
 {

@@ -9,7 +9,7 @@ use raft_records::Fault;
 use raft_tables::KeyAndValue;
 use std::alloc::{AllocError, Global};
 
-/// Copies of keys and values, as far as there is memory.
+/// Copies of keys and values, until memory runs out.
 #[derive(Drop)]
 struct Copies {
     alloc: Global,
@@ -29,7 +29,7 @@ impl Copies {
     }
 }
 
-/// A group's keys with their values, in the order of the keys' bytes, but for its number.
+/// A group's keys with their values, in the order of the keys' bytes, without its number.
 pub(crate) fn pairs_of<F: FileSystem>(
     alloc: Global,
     engine: &Engine<F>,

@@ -30,7 +30,8 @@ impl Settings {
         }
     }
 
-    /// Adds the text of a line. It answers whether it did: not once a line asked for something.
+    /// Adds the text of a line, and returns whether it did: not after a line has asked for
+    /// something.
     pub(crate) fn add(&mut self, text: &[u8]) -> Result<bool, AllocError>
         ensures value { IfOk result (λ added. added ≡ not (were_read self.old)) }
         ensures lines { were_read self.old ≡ false → OnOk result
@@ -45,8 +46,8 @@ impl Settings {
         Ok(true)
     }
 
-    /// Makes settings of the lines, the first time. It fails as `InvalidArgument` where the lines set no such settings;
-    /// else as `Memory`.
+    /// Makes settings of the lines, the first time. It fails with `InvalidArgument` if the lines
+    /// set no such settings; otherwise with `Memory`.
     pub(crate) fn read(&mut self, alloc: Global) -> Result<(), Fault>
         ensures ok { OnOk result (were_read self.new ≡ true) }
         ensures value { self.old.config ≡ None → OnOk result

@@ -1,4 +1,4 @@
-//! Whoever is told of what happens to log files: listeners and the hook, or nobody.
+//! Receivers of events on log files: listeners and the hook, or nobody.
 ghost use Rattle.std.specs.Prelude.{◌≡◌, ◌-◌, ◌<◌, ◌≤◌, [], ◌∷◌, true, OnOk, IfErr};
 ghost use Rattle.raft_base.specs.declared.pipe_log.LogQueue.TheVariants.{Append};
 ghost use Rattle.raft_listeners.specs.Heard.{HasHeard, Heard, new_files};
@@ -9,18 +9,18 @@ use crate::listeners::Listeners;
 use crate::no_listeners::NoListeners;
 use raft_base::{Fault, FileId, FileSeq, LogQueue};
 
-/// Whoever is told of what happens to log files.
+/// A receiver of events on log files.
 pub trait EventSink: Drop {
-    /// What was told.
+    /// The events that it received.
     ghost heard: { Self → Heard };
 
-    /// Makes room for so many files more of the Append queue.
+    /// Reserves room for this many more files of the Append queue.
     fn make_room(&mut self, files: usize) -> Result<(), Fault>
         ensures ok { OnOk result (files ≤ (heard self.new).room) }
         ensures same { HasHeard [] (heard self.old) (heard self.new) }
         ensures cause { IfErr result (λ fault. fault ≡ Fault.Memory) };
 
-    /// Tells an event. Of a new file of the Append queue it needs room.
+    /// Reports an event. A new file of the Append queue needs room.
     fn tell(&mut self, event: Event)
         requires { needs_room event ≡ true → 0 < (heard self.old).room }
         ensures told { HasHeard (event ∷ []) (heard self.old) (heard self.new) };
@@ -50,8 +50,8 @@ impl EventSink for NoListeners {
     }
 }
 
-/// Tells of the files of a queue from this number on and before that one. Of those of the Append
-/// queue it needs room.
+/// Reports the files of a queue from this number on and before that one. Those of the Append queue
+/// need room.
 pub fn tell_files<S: EventSink>(sink: &mut S, queue: LogQueue, first: FileSeq, end: FileSeq)
     requires { queue ≡ Append → end - first ≤ (S.heard sink.old).room }
     ensures told { HasHeard (new_files queue first (end - first)) (S.heard sink.old)

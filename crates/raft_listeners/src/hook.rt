@@ -1,4 +1,4 @@
-//! Which files of the Append queue have records that the tables haven't taken yet.
+//! Which files of the Append queue have records that the tables have not taken yet.
 ghost use Rattle.std.specs.Prelude.{◌≡◌, ◌⊎◌, ◌↔◌, ◌+◌, ◌-◌, ◌^◌, ◌<◌, ◌≤◌, [], suc, true, false, length, drop, OnOk, OnErr, IfErr, MatchOption};
 
 use crate::listener::{Event, EventListener};
@@ -10,8 +10,8 @@ use std::collections::VecDeque;
 // No log file has this number or a greater one.
 const END_OF_NUMBERS: FileSeq = 10_000_000_000_000_000;
 
-/// The files of the Append queue, whose numbers follow one another, and of each how many of its
-/// records were appended and not applied yet. Contracts see it as `waiting_of`.
+/// The files of the Append queue, with consecutive numbers, and how many records of each were
+/// appended and not applied yet. Contracts see it as `waiting_of`.
 #[derive(Debug, Drop)]
 pub struct PurgeHook {
     first: FileSeq,
@@ -32,7 +32,7 @@ impl PurgeHook {
         }
     }
 
-    /// Makes room for so many files more.
+    /// Reserves room for this many more files.
     pub fn make_room(&mut self, files: usize) -> Result<(), Fault>
         ensures ok { OnOk result (files ≤ room_of self.new) }
         ensures same { waiting_of self.new ≡ waiting_of self.old }
@@ -43,7 +43,7 @@ impl PurgeHook {
         Ok(())
     }
 
-    /// Holds one file more. It fails as `Range` where the file doesn't follow those that it holds.
+    /// Holds one more file. It fails with `Range` if the file does not follow those that it holds.
     pub fn new_log_file(&mut self, seq: FileSeq) -> Result<(), Fault>
         ensures ok { OnOk result (waiting_of self.new ≡ with_file (waiting_of self.old) seq) }
         ensures err { OnErr result (waiting_of self.new ≡ waiting_of self.old) }
@@ -85,8 +85,8 @@ impl PurgeHook {
         }
     }
 
-    /// One record more of the file was appended. It fails as `Range` where the hook doesn't hold
-    /// the file, or where its count is 2^64 - 1.
+    /// One more record of the file was appended. It fails with `Range` if the hook does not hold
+    /// the file, or if its count is 2^64 - 1.
     pub fn append_log_file(&mut self, seq: FileSeq) -> Result<(), Fault>
         ensures ok { OnOk result (waiting_of self.new ≡ with_count (waiting_of self.old) seq
             (waiting_at (waiting_of self.old) seq + 1)) }
@@ -105,8 +105,8 @@ impl PurgeHook {
         Ok(())
     }
 
-    /// A record of the file was applied. It fails as `Range` where the hook doesn't hold the file,
-    /// or where none of its records waits.
+    /// A record of the file was applied. It fails with `Range` if the hook does not hold the file,
+    /// or if none of its records waits.
     pub fn applied(&mut self, seq: FileSeq) -> Result<(), Fault>
         ensures ok { OnOk result (waiting_of self.new ≡ with_count (waiting_of self.old) seq
             (waiting_at (waiting_of self.old) seq - 1)) }
@@ -125,7 +125,7 @@ impl PurgeHook {
         Ok(())
     }
 
-    /// The file and all before it were dropped. It fails as `Range` where the file is past the last
+    /// The file and all before it were dropped. It fails with `Range` if the file is past the last
     /// one that the hook holds.
     pub fn purged(&mut self, seq: FileSeq) -> Result<(), Fault>
         ensures ok { OnOk result (waiting_of self.new ≡ without_files (waiting_of self.old) seq) }
@@ -155,7 +155,7 @@ impl PurgeHook {
         self.first += count as u64;
     }
 
-    /// What it is told as a listener.
+    /// The events that it hears as a listener.
     pub fn hear(&mut self, event: Event)
         ensures value { (needs_room event ≡ true → 0 < room_of self.old)
             → waiting_of self.new ≡ after_event (waiting_of self.old) event }
@@ -169,7 +169,7 @@ impl PurgeHook {
         }
     }
 
-    /// The least of its files with a record that waits.
+    /// The least of its files with a waiting record.
     pub fn first_waiting(&self) -> Option<FileSeq>
         ensures value { IsFirstWaiting (waiting_of self.now) result }
     {

@@ -1,4 +1,4 @@
-//! Whoever is told of what happens to log files, and the one that the engine has itself.
+//! Listeners to what happens to log files, and the engine's own one.
 #![tactic(auto)]
 
 mod event_sink;

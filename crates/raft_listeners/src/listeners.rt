@@ -1,4 +1,4 @@
-//! All that are told of what happens to log files.
+//! All listeners to what happens to log files.
 ghost use Rattle.std.specs.Prelude.{◌≡◌, ◌-◌, ◌<◌, ◌≤◌, [], ◌∷◌, min, true, OnOk, IfErr};
 ghost use Rattle.std.specs.Option.{option_map_or};
 
@@ -8,9 +8,9 @@ use raft_base::{Fault, FileId, FileSeq, History, LogQueue};
 use std::alloc::Global;
 use std::marker::Model;
 
-/// The caller's listeners in the order in which they were given, and then the hook. Contracts see them
-/// as `Heard`: what they were told and what they answered. What a listener of the caller's makes of
-/// what it is told is its own affair.
+/// The caller's listeners in the given order, and then the hook. Contracts see them as `Heard`: the
+/// events that they heard and the results that they returned. What a listener of the caller's does
+/// with an event is up to it.
 #[derive(Drop)]
 pub struct Listeners {
     given: Vec<Box<dyn EventListener + Send>>,
@@ -42,7 +42,7 @@ impl Listeners {
     ghost use Rattle.raft_base.specs.declared.pipe_log.LogQueue.TheVariants.{Append};
     ghost use Rattle.std.specs.Prelude.{◌≡◌, ◌-◌, ◌<◌, ◌≤◌, [], ◌∷◌, true, OnOk, IfErr, vec_len};
 
-    /// Nobody was told of anything yet. It takes no memory.
+    /// Nothing was reported yet. It takes no memory.
     pub fn new(alloc: Global, given: Vec<Box<dyn EventListener + Send>>) -> Listeners
         ensures silent { IsSilent (vec_len given) result }
     {
@@ -61,7 +61,7 @@ impl Listeners {
         self.given
     }
 
-    /// Makes room in the hook for so many files more of the Append queue.
+    /// Reserves room in the hook for this many more files of the Append queue.
     pub fn make_room(&mut self, files: usize) -> Result<(), Fault>
         ensures ok { OnOk result (files ≤ self.new.room) }
         ensures same { HasHeard [] self.old self.new }
@@ -70,7 +70,8 @@ impl Listeners {
         self.hook.make_room(files)
     }
 
-    /// Tells each of them, the hook last. Of a new file of the Append queue the hook needs room.
+    /// Reports to each of them, to the hook last. For a new file of the Append queue the hook needs
+    /// room.
     pub fn tell(&mut self, event: Event)
         requires { needs_room event ≡ true → 0 < self.old.room }
         ensures told { HasHeard (event ∷ []) self.old self.new }
@@ -82,8 +83,8 @@ impl Listeners {
         self.told = self.told.with(&event);
     }
 
-    /// Tells of the files of a queue from this number on and before that one. Of those of the Append
-    /// queue the hook needs room.
+    /// Reports the files of a queue from this number on and before that one. For those of the
+    /// Append queue the hook needs room.
     pub fn tell_files(&mut self, queue: LogQueue, first: FileSeq, end: FileSeq)
         requires { queue ≡ Append → end - first ≤ self.old.room }
         ensures told { HasHeard (new_files queue first (end - first)) self.old self.new }

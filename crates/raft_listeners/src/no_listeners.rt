@@ -1,4 +1,4 @@
-//! Nobody is told of what happens to log files.
+//! Nobody listens to what happens to log files.
 ghost use Rattle.std.specs.Prelude.{◌≡◌, ◌^◌, ◌≤◌, [], ◌∷◌, OnOk, IfErr};
 
 use crate::listener::Event;
@@ -6,7 +6,7 @@ use raft_base::{Fault, History};
 use std::marker::Model;
 use std::mem;
 
-/// Nobody: what it is told only clauses know.
+/// Nobody: only clauses know the reported events.
 #[derive(Drop)]
 pub struct NoListeners {
     told: History<Event>,
@@ -29,7 +29,7 @@ impl Model for NoListeners {
 impl NoListeners {
     ghost use Rattle.raft_listeners.specs.Heard.{HasHeard, IsSilent};
 
-    /// Nobody was told of anything yet.
+    /// Nothing was reported yet.
     pub fn new() -> NoListeners
         ensures silent { IsSilent 0 result }
     {

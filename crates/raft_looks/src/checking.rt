@@ -20,8 +20,8 @@ struct Found {
     left_out: Vec<LeftOut>,
 }
 
-/// Prints a line for each file, and says what an opening in each mode would do; none where a file is
-/// there no more.
+/// Prints a line for each file, and says what an opening in each mode would do; none if a file is
+/// gone meanwhile.
 pub fn check(
     alloc: Global,
     folder: &Folder,

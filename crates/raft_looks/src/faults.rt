@@ -7,8 +7,8 @@ use std::io;
 /// How many bytes an error's text may have.
 const ROOM: usize = 120;
 
-/// Why a folder can't be opened, or a file in it read. A text for which an error has no room is told on standard error
-/// before.
+/// Why a folder cannot be opened, or a file in it read. A text for which an error has no room goes
+/// to standard error before.
 pub fn told(rt: &HostRuntime, fault: &OpenFault) -> Error {
     match format!(in rt.alloc(); "{fault}") {
         Ok(text) if text.len() > ROOM => {

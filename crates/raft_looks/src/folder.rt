@@ -31,7 +31,7 @@ pub struct Folder {
     alloc: Global,
     path: String,
     view: FolderView,
-    /// The second folder, where the options name one.
+    /// The second folder, if the options name one.
     spill: Option<String>,
     pub files: Vec<LogFile>,
     /// The files that are kept to be used as next log files, and hold no record.
@@ -64,7 +64,7 @@ pub struct ReservedFile {
 }
 
 impl Folder {
-    /// It fails where there is no folder.
+    /// It fails if the folder does not exist.
     pub fn open(rt: HostRuntime, path: &str, options: &Options<'_>) -> Result<Folder> {
         let alloc = rt.alloc();
         let view = match FolderView::open(rt, path) {
@@ -110,7 +110,7 @@ impl Folder {
         }
     }
 
-    /// Whether a writer has the folder open, so that what is read may change meanwhile.
+    /// Whether a writer has the folder open, so that the files may change meanwhile.
     pub fn is_in_use(&self) -> bool {
         self.view.is_in_use()
     }
@@ -126,7 +126,8 @@ impl Folder {
         Ok(found)
     }
 
-    /// What of the log isn't read: folders right below with files of it, or the Rewrite queue, where it is gone.
+    /// The unread parts of the log: folders directly inside with files of it, or the Rewrite queue,
+    /// if it is gone.
     pub fn left_out(&self) -> Result<Vec<LeftOut>> {
         let spill = match &self.spill {
             Some(spill) => Some(spill.as_str()),
@@ -232,7 +233,7 @@ impl Folder {
         }
     }
 
-    /// All log files in memory; none where one is there no more.
+    /// All log files in memory; none if one is gone meanwhile.
     pub fn image(&self, progress: &mut Progress) -> Result<Option<MemoryFileSystem>> {
         let mut files = Vec::new(self.alloc);
         for (place, file) in self.files.iter().enumerate() {
@@ -245,8 +246,8 @@ impl Folder {
         Ok(Some(self.files_in_memory(files)?))
     }
 
-    /// All log files in memory, whichever folder they stand in; none where one is there no more. It
-    /// fails where both folders have one of a number.
+    /// All log files in memory, from both folders; none if one is gone meanwhile. It fails if both
+    /// folders have a file of one number.
     pub fn image_in_one_folder(&self, progress: &mut Progress) -> Result<Option<MemoryFileSystem>> {
         let mut files = Vec::new(self.alloc);
         for queue in &[LogQueue::Rewrite, LogQueue::Append] {
@@ -309,8 +310,8 @@ impl Folder {
         Ok(files)
     }
 
-    /// The log files of a queue, and what can be read of each; none where one is there no more. One
-    /// part of one is in memory at a time.
+    /// The log files of a queue, and how much of each can be read; none if one is gone meanwhile.
+    /// One part of one is in memory at a time.
     pub fn inspect(&self, queue: LogQueue, progress: &mut Progress) -> Result<Option<QueueFiles>> {
         let files = self.files_of(queue)?;
         match self.checks_of(&files, progress)? {
@@ -320,7 +321,7 @@ impl Folder {
     }
 
     /// The files of a queue that hold something and that an opening passes over, since a number is
-    /// missing behind them. It reads those alone.
+    /// missing after them. It reads only those.
     pub fn passed(&self, queue: LogQueue, progress: &mut Progress) -> Result<Option<Passed>> {
         let files = self.files_of(queue)?;
         let count = QueueFiles::passed_by_number(&files);
@@ -352,7 +353,7 @@ impl Folder {
         }
     }
 
-    /// A file whose bytes are read part by part; none where it is there no more.
+    /// A file whose bytes are read part by part; none if it is gone meanwhile.
     pub fn source_of<'a>(
         &'a self,
         file: &'a LogFile,
@@ -361,7 +362,8 @@ impl Folder {
         FileSource::open(self.rt, &self.view, file.path.as_str(), progress)
     }
 
-    /// What an opening in a mode cuts off of the files of a queue; it reads those alone that it may cut.
+    /// What an opening in a mode cuts off the files of a queue; it reads only those that it may
+    /// cut.
     pub fn cuts<F: FileSystem>(
         &self,
         image: &mut F,

@@ -18,7 +18,7 @@ pub struct Hindrance {
 }
 
 impl Hindrance {
-    /// Adds a line that tells it.
+    /// Adds a line for it.
     pub(crate) fn add_line(&self, lines: &mut Lines) -> Result<(), AllocError> {
         lines.named(&[
             ("refused", Word::Bytes(self.path.as_bytes())),

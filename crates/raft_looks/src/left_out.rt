@@ -19,13 +19,13 @@ pub enum LeftOut {
     /// A folder, by its path from the log's on, with files that the opening would keep, if it read them too; and how
     /// many log files it has, and bytes.
     Folder(String, u64, u64),
-    /// The Rewrite queue: each opening makes a first file of it, and none stands. The number of the Append queue's
-    /// first file, before which files were dropped.
+    /// The Rewrite queue: each opening makes a first file of it, and it has none. The number of the
+    /// Append queue's first file, before which files were dropped.
     Rewrite(u64),
 }
 
 impl LeftOut {
-    /// Adds a line that tells it.
+    /// Adds a line for it.
     pub(crate) fn add_line(&self, lines: &mut Lines) -> Result<(), AllocError> {
         match self {
             LeftOut::Folder(folder, files, bytes) => lines.named(&[
@@ -53,8 +53,9 @@ pub(crate) struct ReadFiles<'a> {
 }
 
 impl ReadFiles<'_> {
-    /// The folders right below that are left out: their files go on with the numbers of those that are read, and no
-    /// number is in both. One with a lock of its own is another log. Without one, the Rewrite queue, where it is gone.
+    /// The folders directly inside that are left out: their files continue the numbers of those
+    /// that are read, and no number is in both. A folder with its own lock is another log. Without
+    /// such folders, the Rewrite queue, if it is gone.
     pub fn left_out(&self) -> Result<Vec<LeftOut>> {
         let mut found = Vec::new(self.rt.alloc());
         let entries = match fs::read_dir(&self.rt, self.path) {

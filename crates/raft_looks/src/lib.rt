@@ -1,5 +1,5 @@
-//! Looks at a folder's log files, which are read and never changed: what can be read of each, what it holds, and all of
-//! them in memory.
+//! Looks at a folder's log files, which are read and never changed: how much of each can be read,
+//! what it holds, and all of them in memory.
 #![tactic(auto)]
 
 mod checking;

@@ -11,7 +11,7 @@ use raft_parts::{FilePart, PartSource};
 use raft_records::Fault;
 use std::io::ErrorKind;
 
-/// A file of a folder that is looked at, and what was told of it, for clauses alone.
+/// A file of a folder under a look, and the parts that were read, only for clauses.
 #[derive(Drop)]
 pub struct FileSource<'a> {
     rt: HostRuntime,
@@ -20,13 +20,13 @@ pub struct FileSource<'a> {
     size: u64,
     progress: &'a mut Progress,
     given: History<FilePart>,
-    /// What the system said where it refused a read.
+    /// The system's text when it refused a read.
     refused: Option<OpenFault>,
 }
 
 impl<'a> FileSource<'a> {
-    /// Of the file at a path from the folder on, which tells how far it is read; none where it is
-    /// there no more.
+    /// The file at a path from the folder on, which reports its progress; none if it is gone
+    /// meanwhile.
     pub fn open(
         rt: HostRuntime,
         view: &'a FolderView,

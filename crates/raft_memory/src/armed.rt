@@ -1,4 +1,4 @@
-//! Refusals that a test arms in a file system in memory.
+//! Refusals that a test sets up in a file system in memory.
 ghost use Rattle.std.specs.Prelude.{◌≡◌, ◌<◌, [], ◌∷◌, ◌++◌, Some, None, OnOk, OnErr, IfErr, IfSome, IsTrue, not};
 ghost use Rattle.raft_memory.specs.Choice.{RefusesUnless};
 
@@ -99,7 +99,7 @@ impl Armed {
         None
     }
 
-    /// Counts the call, and says with which fault it is to fail.
+    /// Counts the call, and returns the fault with which it is to fail.
     #[inline(always)]
     pub(crate) fn fault_for(&mut self, call: FsCall) -> Option<IoKind>
         ensures value { result ≡ due_kind call (arms_of self.old.refusals.items) }
@@ -116,7 +116,7 @@ impl Armed {
         due
     }
 
-    /// The same of a call that changes files, which counts for the stop too.
+    /// The same for a call that changes files, which counts for the stop too.
     #[inline(always)]
     pub(crate) fn fault_for_change(&mut self, call: FsCall) -> Option<IoKind>
         ensures value { result ≡ injected call (arms_of self.old.refusals.items) self.old.stop }
@@ -135,7 +135,7 @@ impl Armed {
         }
     }
 
-    /// Counts the calls that a block's read stands for: to open the file, of its size, and of a
+    /// Counts the calls that a block's read replaces: to open the file, for its size, and for a
     /// reader.
     pub(crate) fn fault_for_block(&mut self) -> Option<IoKind>
         ensures value { result ≡ due_in_block (arms_of self.old.refusals.items) }
@@ -152,7 +152,7 @@ impl Armed {
         open.or(size).or(reader)
     }
 
-    /// The same of a read. Reads may come at once, so no clause tells which of them fails.
+    /// The same for a read. Reads may come at the same time, so no clause says which of them fails.
     pub(crate) fn fault_for_read(&self) -> Option<IoKind>
         ensures { IfSome result (λ kind. IsArmed (arms_of self.now.refusals.items) FsCall.Read
             kind) }
@@ -170,10 +170,10 @@ impl Armed {
 impl MemoryFileSystem {
     ghost use Rattle.raft_memory.specs.Memory.{memory_directory, memory_moments, memory_refusals, armed_of, stop_of};
 
-    /// Arms one more refusal: of the calls of that sort from now on the nth, counted from 1, and no
-    /// other fails so. A write that fails so has written the first half of its bytes,
-    /// rounded down, if all of them have room; where memory for the half is wanting, it has written
-    /// nothing and answers `Memory`. Any other call has changed nothing.
+    /// Sets up one more refusal: from now on exactly the nth call of that sort, counted from 1,
+    /// fails with this fault. A write that fails in this way has written the first half of its
+    /// bytes, rounded down, if all of them have room. Without memory for the half it has written
+    /// nothing and fails with `Memory`. Any other call has changed nothing.
     pub fn refuse(&mut self, call: FsCall, nth: u64, kind: IoKind) -> Result<(), Fault>
         ensures ok { OnOk result (armed_of self.new ≡ armed_of self.old ++ (call, nth, kind) ∷ []) }
         ensures err { OnErr result (armed_of self.new ≡ armed_of self.old) }
@@ -196,9 +196,9 @@ impl MemoryFileSystem {
         Ok(())
     }
 
-    /// Of the calls from now on that may change files the nth, counted from 1, and each later one
-    /// fail as `Other`. These are to create, delete, rename, delete metadata, write,
-    /// truncate, allocate, sync and make a folder.
+    /// From now on the nth call that may change files, counted from 1, and each later one fail with
+    /// `Other`. These are the calls that create, delete, rename, delete metadata, write, truncate,
+    /// allocate, sync and make a folder.
     pub fn stop_at(&mut self, nth: u64)
         ensures ok { stop_of self.new ≡ Some nth }
         ensures others { armed_of self.new ≡ armed_of self.old }

@@ -1,4 +1,4 @@
-//! What stood in a file before its changes since the last sync.
+//! The bytes that a file had before its changes since the last sync.
 ghost use Rattle.std.specs.Prelude.{◌≡◌, ◌<◌, ◌+◌, ◌-◌, ℕ, length, slice_index, unwrap_or, if◌then◌else◌, None, Some, OnOk, OnErr};
 ghost use Rattle.std.specs.Option.{option_or};
 ghost use Rattle.raft_env.specs.Outcomes.{is_within};
@@ -9,12 +9,12 @@ use std::alloc::{AllocError, Global};
 use std::marker::Model;
 use std::mem;
 
-/// What is kept of the room for bytes, and for places.
+/// How much room for bytes, and for places, is kept.
 const KEPT_BYTES: usize = 64 << 10;
 
 const KEPT_PLACES: usize = 1 << 10;
 
-/// What one file leaves to the next of its room for bytes.
+/// How much room for bytes one file leaves to the next.
 const LEFT_BYTES: usize = 16 << 20;
 
 /// Bytes by their places in a file. A place that was saved twice has the byte of the first time.
@@ -22,7 +22,7 @@ const LEFT_BYTES: usize = 16 << 20;
 pub(crate) struct BeforeImages {
     /// First places and sizes, the oldest first.
     places: Vec<(usize, usize)>,
-    /// What stood there, one after the other.
+    /// The saved bytes, one after the other.
     bytes: Vec<u8>,
 }
 
@@ -47,8 +47,8 @@ impl BeforeImages {
         }
     }
 
-    /// Saves what stands between two places. What stands after the end is a zero. The first bytes
-    /// go into the room that another file left, where that is greater.
+    /// Saves the bytes between two places; past the end they are zeros. The first bytes go into the
+    /// room that another file left, if that is larger.
     #[inline(always)]
     pub(crate) fn save(
         &mut self,
@@ -74,7 +74,7 @@ impl BeforeImages {
         Ok(())
     }
 
-    /// Forgets all. A log has many files, so a great room is left to the next one.
+    /// Forgets everything. A log has many files, so a large room is left to the next one.
     pub(crate) fn clear(&mut self, room: &mut Vec<u8>)
         ensures { (i : ℕ) → before_image_at self.new i ≡ None }
     {
@@ -85,7 +85,7 @@ impl BeforeImages {
         self.bytes.shrink_to(KEPT_BYTES);
     }
 
-    /// Puts what was saved where it stood.
+    /// Puts the saved bytes back to their places.
     pub(crate) fn restore(&self, bytes: &mut [u8])
         ensures unchanged { length bytes.new ≡ length bytes.old }
         ensures ok { (i : ℕ) → i < length bytes.old → slice_index bytes.new i

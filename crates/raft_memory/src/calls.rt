@@ -9,6 +9,7 @@ use crate::armed::FsCall;
 use crate::half_write::fits;
 use crate::handles::{MemoryHandle, MemoryReader, MemoryWriter, copy_from};
 use crate::memory::MemoryFileSystem;
+use crate::touch::touch;
 use raft_env::{FileSystem, FsFault, IoKind, Permission};
 
 impl FileSystem for MemoryFileSystem {
@@ -372,6 +373,13 @@ impl FileSystem for MemoryFileSystem {
         bytes: &mut Vec<u8>,
     ) -> Result<(), FsFault> {
         self.read_part(path, at, len, bytes)
+    }
+
+    fn will_read(&self, path: &str, parts: &[(usize, usize)]) -> u64 {
+        match self.namespace.files.get(path) {
+            Some(file) => touch(file.bytes().stored(), parts),
+            None => 0,
+        }
     }
 
     fn file_size(&mut self, handle: &MemoryHandle) -> Result<usize, FsFault>

@@ -23,8 +23,8 @@ pub enum Choice {
     All,
     /// The bytes of the last sync.
     Synced,
-    /// The bytes now, but of the places that were touched since the last sync only so many, the
-    /// first ones, hold them; the others hold the byte.
+    /// The bytes now, except in the places that were touched since the last sync: only so many of
+    /// these, the first ones, hold them; the others hold the byte.
     Torn(usize, u8),
     /// These bytes.
     Bytes(Vec<u8>),
@@ -36,12 +36,11 @@ impl MemoryFileSystem {
     ghost use Rattle.raft_env.specs.Refusal.{no_refusals};
 
     /// The files after a crash now. The choices go to the files in the order of their paths' bytes,
-    /// and a file that is left over keeps what was synced. Folders stay, and so do free
-    /// space and metadata. The files are consistent,
-    /// and of their changes only writes failed. So by `raft_queue_laws::damage::premise_can_be_met` the
-    /// damage of `All` and `Synced` is detectable of a log that
-    /// `raft_files::completed_laws::failed_calls_add_no_record` keeps, and that of `Torn` where the torn
-    /// record doesn't decode.
+    /// and a file without a choice keeps its synced bytes. Folders stay, and so do free space and
+    /// metadata. The files are consistent, and of their changes only writes failed. So by
+    /// `raft_queue_laws::damage::premise_can_be_met` the damage of `All` and `Synced` is detectable
+    /// in a log that `raft_files::completed_laws::failed_calls_add_no_record` keeps, and that of
+    /// `Torn` if the torn record does not decode.
     pub fn crash(&self, choices: &[Choice]) -> Result<MemoryFileSystem, Fault>
         ensures ok { IfOk result (λ m. IsRestarted (memory_directory self.now)
             (left_by choices.now (memory_directory self.now)) (memory_directory m)) }

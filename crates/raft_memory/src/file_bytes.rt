@@ -1,20 +1,20 @@
-//! The bytes of a file in memory, of which the last zeros take no memory.
+//! The bytes of a file in memory; zeros at its end take no memory.
 ghost use Rattle.std.specs.Prelude.{◌≡◌, ◌≤◌, ◌<◌, ◌+◌, ◌^◌, ◌++◌, ℕ, [], length, take, drop, slice_index, IfOk, OnOk, OnErr};
 ghost use Rattle.raft_env.specs.Outcomes.{overlay, pad_to};
 
 use std::alloc::{AllocError, Global};
 use std::marker::Model;
 
-/// A file of more bytes than these grows by so many at once.
+/// A file with more bytes than this grows by this many at once.
 const LARGE_FILE: usize = 4 << 20;
 
 const LARGE_GROWTH: usize = 64 << 20;
 
-/// The bytes of a file. Zeros at its end aren't stored until something is written behind them, so
-/// room that is made ahead costs neither time nor memory.
+/// The bytes of a file. Zeros at its end are not stored until something is written after them, so
+/// room that is allocated ahead costs neither time nor memory.
 #[derive(Drop)]
 pub(crate) struct FileBytes {
-    /// The first bytes; those behind them are zeros.
+    /// The first bytes; all later ones are zeros.
     stored: Vec<u8>,
     /// How many bytes there are.
     len: usize,
@@ -42,7 +42,7 @@ impl FileBytes {
         }
     }
 
-    /// These bytes, which are taken over.
+    /// These bytes, which are moved.
     pub(crate) fn of(bytes: Vec<u8>) -> FileBytes
         ensures { result ≡ bytes.items }
     {
@@ -59,7 +59,7 @@ impl FileBytes {
         self.len
     }
 
-    /// The first bytes, behind which there are zeros alone.
+    /// The first bytes; only zeros follow them.
     pub(crate) fn stored(&self) -> &[u8]
         ensures each { (i : ℕ) → slice_index result.now i ≡ slice_index self.now i }
         ensures padding { (i : ℕ) → length result.now ≤ i → slice_index self.now i ≡ 0 }
@@ -76,7 +76,7 @@ impl FileBytes {
         Ok(copy)
     }
 
-    /// Puts the bytes from a place on into a slice, which wants no more than there are.
+    /// Copies the bytes from a place on into a slice, which is no longer than they are.
     pub(crate) fn copy_to(&self, at: usize, bytes: &mut [u8])
         requires { at + length bytes.old ≤ length self.now }
         ensures { bytes.new ≡ take (length bytes.old) (drop at self.now) }
@@ -87,7 +87,7 @@ impl FileBytes {
         bytes[count..].fill(0);
     }
 
-    /// Puts so many bytes from a place on into an empty buffer, which wants no more than there are.
+    /// Copies bytes from a place on into an empty buffer, no more than there are.
     pub(crate) fn push_to(
         &self,
         at: usize,
@@ -115,7 +115,7 @@ impl FileBytes {
         self.len = self.len.min(size);
     }
 
-    /// Puts zeros behind the bytes, up to this length. It takes no memory.
+    /// Appends zeros to the bytes, up to this length. It takes no memory.
     pub(crate) fn lengthen(&mut self, size: usize)
         requires { size < 2 ^ 63 }
         ensures { self.new ≡ pad_to self.old size }
@@ -123,7 +123,7 @@ impl FileBytes {
         self.len = self.len.max(size);
     }
 
-    /// Writes over what is there, and past the end; no bytes change nothing.
+    /// Overwrites bytes, and writes past the end; no bytes change nothing.
     #[inline(always)]
     pub(crate) fn overlay(&mut self, at: usize, given: &[u8]) -> Result<(), AllocError>
         requires { at + length given.now < 2 ^ 63 }
@@ -139,7 +139,7 @@ impl FileBytes {
     }
 }
 
-/// None where the place is past the end.
+/// None if the place is past the end.
 pub(crate) fn bytes_from(bytes: &[u8], at: usize) -> &[u8]
     ensures { result.now ≡ drop at bytes.now }
 {

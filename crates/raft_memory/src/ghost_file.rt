@@ -20,8 +20,8 @@ unsafe impl Send for GhostFile {}
 
 unsafe impl Sync for GhostFile {}
 
-/// What became of a file, of which that was known before. The last bytes of a step are the
-/// file's then.
+/// A change of a file, with the clauses' knowledge of it before. The last bytes of a step are the
+/// file's bytes after it.
 #[derive(Clone, Copy, Drop)]
 pub(crate) enum Step<'a> {
     Write(&'a GhostFile, usize, &'a [u8], bool, &'a FileBytes),

@@ -1,4 +1,4 @@
-//! What a write leaves whose refusal was injected.
+//! What a write leaves after an injected refusal.
 ghost use Rattle.std.specs.Prelude.{◌≡◌, ◌≤◌, ◌+◌, ◌^◌, ◌↔◌, IfErr, IsTrue, OnErr, OnOk};
 ghost use Rattle.raft_env.specs.Directory.{IsWriting};
 ghost use Rattle.raft_env.specs.Moments.{MovesBy};
@@ -11,8 +11,8 @@ const MAX_LEN: usize = 1 << 62;
 impl MemoryFileSystem {
     ghost use Rattle.raft_memory.specs.Memory.{memory_directory, memory_moments, memory_refusals, armed_of, stop_of, half_left};
 
-    /// Writes the first half of the bytes, rounded down, if a file stands there and has room for all
-    /// of them. It fails for lack of memory alone.
+    /// Writes the first half of the bytes, rounded down, if a file exists there and has room for
+    /// all of them. It fails only for lack of memory.
     pub(crate) fn write_half(&mut self, path: &str, at: usize, bytes: &[u8]) -> Result<(), FsFault>
         ensures ok { OnOk result (memory_directory self.new
             ≡ half_left path.now at bytes.now (memory_directory self.old)) }

@@ -48,7 +48,7 @@ impl Drop for MemoryWriter {
 }
 
 impl MemoryReader {
-    /// Counts a failed read, and gives its fault.
+    /// Counts a failed read, and returns its fault.
     pub(crate) fn refuse(&mut self, kind: IoKind) -> FsFault
         ensures value { result ≡ FsFault.Io kind }
         ensures reader { string_bytes self.new.path ≡ string_bytes self.old.path }

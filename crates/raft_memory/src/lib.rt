@@ -16,6 +16,7 @@ mod noted;
 mod read_part;
 mod refusals;
 mod settled;
+mod touch;
 mod write_first;
 
 pub use armed::FsCall;

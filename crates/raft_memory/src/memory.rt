@@ -1,4 +1,4 @@
-//! A file system in memory. Its earlier states are kept for clauses alone.
+//! A file system in memory. Its earlier states are kept only for clauses.
 ghost use Rattle.std.specs.Prelude.{◌≡◌, ◌-◌, ◌^◌, [], ◌∷◌, None, OnErr, OnOk, false, true};
 ghost use Rattle.std.proofs.Props.{props};
 ghost use Rattle.raft_env.specs.Consistent.{AreConsistent, OnlyWritesFailedIn, past_prop};
@@ -70,7 +70,7 @@ impl MemoryFileSystem {
 impl MemoryFileSystem {
     ghost use Rattle.raft_memory.specs.Memory.{memory_directory, memory_free, memory_metadata, memory_moments, memory_refusals, armed_of, set_at, stop_of};
 
-    /// Gives a folder so many bytes of free space. Calls that write don't use them up.
+    /// Gives a folder so many bytes of free space. Writes do not use them up.
     pub fn set_free(&mut self, dir: &str, bytes: u64) -> Result<(), AllocError>
         ensures ok { OnOk result (memory_free self.new ≡ set_at dir.now bytes
             (memory_free self.old)) }
@@ -87,7 +87,7 @@ impl MemoryFileSystem {
         Ok(())
     }
 
-    /// Gives a path metadata, whether or not a file stands there.
+    /// Gives a path metadata, whether or not a file exists there.
     pub fn set_metadata(&mut self, path: &str) -> Result<(), AllocError>
         ensures ok { OnOk result (memory_metadata self.new ≡ set_at path.now true
             (memory_metadata self.old)) }

@@ -1,5 +1,5 @@
-//! A file in memory: its bytes now, what its changes since the last sync wrote over, and the ranges
-//! that they touched.
+//! A file in memory: its bytes now, the bytes that its changes since the last sync overwrote, and
+//! the ranges that they touched.
 ghost use Rattle.std.specs.Prelude.{◌≡◌, ◌≤◌, ◌<◌, ◌+◌, ◌-◌, ◌==◌, ◌&&◌, ◌^◌, ◌||◌, ℕ, [], length, take, if◌then◌else◌, true, OnOk, OnErr, IfOk, IfErr, MatchBool, vec_len, vec_capacity};
 ghost use Rattle.raft_env.specs.Outcomes.{File, MayLeave, synced_file, file_after_write, file_after_resize, synced_of, renamed_of, longest_of, overlay, pad_to, is_within};
 ghost use Rattle.raft_memory.specs.Choice.{torn_bytes};
@@ -17,7 +17,7 @@ use std::marker::Model;
 pub(crate) struct MemoryFile {
     bytes: FileBytes,
     synced_len: usize,
-    /// How many bytes of the last sync were stored. Zeros followed, which aren't saved.
+    /// How many bytes of the last sync were stored. Zeros followed, which are not saved.
     synced_stored: usize,
     saved: BeforeImages,
     ranges: Vec<(usize, usize)>,
@@ -59,8 +59,8 @@ impl MemoryFile {
         &self.bytes
     }
 
-    /// A write of `given`, of which `kept` reached the file. What one file saves goes into the
-    /// room that another left.
+    /// A write of `given`, of which `kept` reached the file. The bytes that one file saves go into
+    /// the room that another left.
     #[inline(always)]
     pub(crate) fn write(
         &mut self,

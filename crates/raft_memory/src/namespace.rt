@@ -16,7 +16,8 @@ pub(crate) type Files = BTreeMap<String, MemoryFile>;
 pub(crate) struct Namespace {
     pub(crate) files: Files,
     pub(crate) folders: Vec<String>,
-    /// Room for what a file wrote over since its last sync: one leaves it to the next.
+    /// Room for the overwritten bytes of a file since its last sync: one file leaves it to the
+    /// next.
     pub(crate) room: Vec<u8>,
 }
 
@@ -44,7 +45,7 @@ impl Namespace {
                 .any(|made| is_on_way(path, made.as_str()))
     }
 
-    /// A path that stands keeps its file.
+    /// If the path has a file, that file stays.
     pub(crate) fn create(&mut self, alloc: Global, path: &str) -> Result<(), FsFault>
         ensures ok { OnOk result (namespace_directory self.new
             ≡ after_create path.now (namespace_directory self.old)) }
@@ -180,7 +181,7 @@ impl Namespace {
         Ok(())
     }
 
-    /// Moves the file, without a copy of its bytes. What stands at the other path is gone.
+    /// Moves the file, without a copy of its bytes. A file at the other path is gone.
     pub(crate) fn rename(&mut self, alloc: Global, from: &str, to: &str) -> Result<(), FsFault>
         ensures { ChangesFile from.now (after_rename from.now to.now)
             (λ n path e. IsMissing n path e ⊎ HasNoPlace n to.now e) result self.old self.new }

@@ -1,4 +1,4 @@
-//! Bytes as they were, for clauses alone.
+//! Earlier bytes, only for clauses.
 ghost use Rattle.std.specs.Prelude.{◌≡◌};
 
 use crate::ghost_file::{GhostFile, Step};

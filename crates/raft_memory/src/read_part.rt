@@ -14,8 +14,8 @@ impl MemoryFileSystem {
     ghost use Rattle.raft_memory.specs.Armed.{arms_after_block, due_in_block};
     ghost use Rattle.raft_memory.specs.Refused.{IsMissing, RefusesAs, WasArmed};
 
-    /// As `FileSystem::read_block`. It counts as calls to open the file, of its size, of a reader,
-    /// and of a read.
+    /// As `FileSystem::read_block`. It counts as four calls: to open the file, for its size, for a
+    /// reader, and for a read.
     pub(crate) fn read_part(
         &mut self,
         path: &str,

@@ -5,7 +5,7 @@ ghost use Rattle.raft_env.specs.Refusal.{CountsRefusal, NoFewer, added_count, no
 use raft_base::History;
 use raft_env::FsFault;
 
-/// Counts of failed calls, by storage and for lack of memory; the second is for clauses alone.
+/// Counts of failed calls, by storage and for lack of memory. Only clauses see the second one.
 #[derive(Drop)]
 pub struct RefusalCount {
     storage: u64,
@@ -24,7 +24,7 @@ impl RefusalCount {
         }
     }
 
-    /// Counts the refusal, and gives it back.
+    /// Counts the refusal, and returns it.
     pub fn count(&mut self, fault: FsFault) -> FsFault
         ensures value { result ≡ fault }
         ensures counts { CountsRefusal fault (refusals_in self.old) (refusals_in self.new) }

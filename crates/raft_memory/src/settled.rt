@@ -1,4 +1,4 @@
-//! Files in memory that are made of bytes that stand already.
+//! Files in memory that are made of existing bytes.
 ghost use Rattle.std.specs.Prelude.{◌≡◌, ◌-◌, ◌^◌, [], ◌∷◌, IfOk, None, false};
 ghost use Rattle.raft_memory.specs.Files.{namespace_directory};
 ghost use Rattle.raft_memory.specs.Settled.{settled_files};
@@ -16,9 +16,9 @@ impl MemoryFileSystem {
     ghost use Rattle.raft_memory.specs.Memory.{memory_directory, memory_free, memory_metadata, memory_moments, memory_refusals, armed_of, stop_of};
     ghost use Rattle.raft_env.specs.Refusal.{no_refusals};
 
-    /// Files of these bytes by their paths, which a crash leaves as they are, and these folders with
-    /// those on the way to them. The bytes are taken over, not copied. Of files with one path the
-    /// last one stands.
+    /// Files with these bytes by their paths, which a crash leaves as they are, and these folders
+    /// with their parents. The bytes are moved, not copied. If a path occurs several times, its
+    /// last file counts.
     pub fn settled(
         alloc: Global,
         files: Vec<(String, Vec<u8>)>,

@@ -1,4 +1,4 @@
-//! A write of which only the first bytes were written, as where space is wanting.
+//! A write that reached the file only with its first bytes, for example without space.
 ghost use Rattle.std.specs.Prelude.{◌≡◌, ◌+◌, ◌<◌, ◌^◌, length, take, OnErr, OnOk};
 ghost use Rattle.std.specs.String.{string_bytes};
 ghost use Rattle.raft_env.specs.Directory.{HasFile, IsWriting, update_file};
@@ -13,8 +13,8 @@ use raft_env::{FsFault, IoKind};
 impl MemoryFileSystem {
     ghost use Rattle.raft_memory.specs.Memory.{memory_directory, memory_moments, memory_refusals, armed_of, stop_of, after_first};
 
-    /// Writes so many of the bytes, the first ones. It notes a failed write where these aren't all.
-    /// No fault is injected here.
+    /// Writes the first `count` of the bytes. If these are not all, it notes a failed write. No
+    /// fault is injected here.
     pub fn write_first(
         &mut self,
         writer: &mut MemoryWriter,

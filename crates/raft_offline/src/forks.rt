@@ -1,4 +1,4 @@
-//! Copies a log into a folder of its own, from which it can be opened.
+//! Copies a log into a separate folder, from which it can be opened.
 
 use crate::copies::{Copy, planned};
 use crate::passed::tell_passed;
@@ -15,7 +15,7 @@ use raft_looks::{Folder, tell_refusal, told};
 use std::alloc::Global;
 use std::io::ErrorKind;
 
-/// Where the names of the source and of the target stand in memory.
+/// The place in memory for the names of the source and of the target.
 pub(crate) const SOURCE: &str = "source";
 
 pub(crate) const TARGET: &str = "target";
@@ -23,10 +23,10 @@ pub(crate) const TARGET: &str = "target";
 pub(crate) const BEFORE_NAME: &str = "target/";
 
 /// Copies the log files that an opening of the request's folder keeps into another, which is made
-/// where it is missing, syncs each and prints its name. The mark of a fork stands there from before
-/// the first copy until all are synced: wherever this ends, the target holds no log file, or a mark
-/// for which each opening and each look refuses it, or all copies. It fails where the source is
-/// open, and as `raft_fork::fork` does; the copies made so far then stay, with the mark. Recycling
+/// if it is missing, syncs each and prints its name. That folder has the mark of a fork from before
+/// the first copy until all are synced. So wherever this ends, the target holds no log file, or a
+/// mark for which each opening and each look refuses it, or all copies. It fails if the source is
+/// open, and as `raft_fork::fork` does; the copies made until then stay, with the mark. Recycling
 /// is no hindrance, since no engine runs.
 pub fn fork_folder(rt: HostRuntime, request: &Request<'_>, target: &str) -> Result<Status> {
     match FolderView::open(rt, request.folder) {
@@ -110,7 +110,7 @@ fn add_names(
     Ok(())
 }
 
-/// The names of the files in a folder; none where it isn't there.
+/// The names of the files in a folder; none if it does not exist.
 pub(crate) fn names_in(rt: &HostRuntime, view: &FolderView, folder: &str) -> Result<Vec<String>> {
     match view.names(folder) {
         Ok(names) => Ok(names),

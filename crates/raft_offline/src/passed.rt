@@ -13,8 +13,8 @@ struct Passed {
     bytes: u64,
 }
 
-/// Tells on standard error how many log files of the source aren't copied, since the numbers behind
-/// them don't go on without a gap.
+/// Reports on standard error how many log files of the source are not copied, since the numbers
+/// after them have a gap.
 pub(crate) fn tell_passed(
     rt: &HostRuntime,
     source: &FolderView,

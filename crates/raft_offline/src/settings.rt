@@ -11,7 +11,7 @@ use std::alloc::{AllocError, Global};
 use std::fs;
 use std::io::ErrorKind;
 
-/// The file in a log's folder whose settings are used where no other is named.
+/// The file in a log's folder whose settings are used if no other is named.
 const NAME: &str = "raftlog.toml";
 
 /// A size, as a text with a unit or a number of bytes.
@@ -46,9 +46,9 @@ const KEYS: [(&str, &str); 15] = [
     ("prefill-limit", SIZE),
 ];
 
-/// Those of the file that is named, else of `raftlog.toml` in the log's folder where that stands,
-/// else the default ones. The log's folder is that of the command line, whatever `dir` says, and
-/// `spill-dir` is a path from there. Standard error tells of keys that are no setting's.
+/// The settings of the named file; without one those of `raftlog.toml` in the log's folder, if that
+/// exists; otherwise the default ones. The log's folder is that of the command line, whatever `dir`
+/// says, and `spill-dir` is a path from there. Standard error lists keys that are no setting's.
 pub fn settings_of(rt: &HostRuntime, request: &Request<'_>) -> Result<Config> {
     let mut config = match request.options.settings {
         Some(path) => settings_in(rt, path, request)?,

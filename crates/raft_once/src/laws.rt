@@ -1,13 +1,13 @@
-//! What holds of the numbers that acted.
+//! What holds for the numbers that acted.
 ghost use Rattle.std.specs.Prelude.{◌≡◌, ◌≤◌, ℕ, List, [], true, false};
 ghost use Rattle.raft_records.specs.Contents.{Contents, after_batch};
 ghost use Rattle.raft_records.specs.Item.{Batch};
 ghost use Rattle.raft_once.specs.History.{Act, ActedOnce, MayAct, MayAllAct, acted_after, are_numbers, cleans, written_of};
 ghost use Rattle.raft_once.specs.Numbers.{Pair, are_old, are_unfit, number_of, numbered};
 
-/// No number of a group acts twice, as long as the group isn't cleaned: each that acts is greater
-/// than all before it (`once`). A group's number falls only by a clean (`kept`), and numbers that
-/// acted are old (`old`).
+/// No number of a group acts twice while the group is not cleaned: each that acts is greater than
+/// all before it (`once`). A group's number falls only by a clean (`kept`), and numbers that acted
+/// are old (`old`).
 pub fn a_number_acts_once()
     ensures once { (m : Contents) (group : ℕ) (acts : List Act) → MayAllAct m acts
         → ActedOnce (acted_after group [] acts) }

@@ -1,4 +1,5 @@
-//! How a queue of log files is opened: its files are read, replayed and settled, and what stands beside them is made fit.
+//! How one queue of log files is opened: read, replayed and settled, with its reserved files and
+//! metadata.
 #![tactic(auto)]
 
 mod metadata;

@@ -5,8 +5,8 @@ ghost use Rattle.raft_files.specs.Records.{bytes_after_crash};
 ghost use Rattle.raft_files.specs.Writer.{bytes_at};
 ghost use Rattle.raft_opening.specs.Open.{IsStillAt};
 
-/// The first bytes of a file that no change has touched since its last sync a crash leaves as they
-/// are.
+/// A crash leaves the first bytes of a file as they are, if no change has touched them since its
+/// last sync.
 pub fn a_crash_leaves_still_bytes()
     ensures left { (end : ℕ) (path : Path) (n : Directory) → IsStillAt end path n
         → (d : CrashImage) → Leaves n d

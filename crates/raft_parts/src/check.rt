@@ -1,4 +1,4 @@
-//! What can be read of a log file of which one part at a time is in memory.
+//! How much of a log file can be read, with one part of it at a time in memory.
 ghost use Rattle.std.specs.Prelude.{◌≡◌, ◌++◌, ◌≤◌, ◌==◌, ◌-◌, ◌+◌, ◌^◌, ℕ, List, None, IfErr, IfOk, drop, length, min, take};
 ghost use Rattle.std.specs.List.{list_all};
 ghost use Rattle.raft_dump.specs.Check.{IsCheckOf, IsReadingOf};
@@ -16,10 +16,9 @@ use raft_records::Fault;
 use std::alloc::Global;
 
 /// Reads a log file of this size as `check_file` of `raft_dump` does, and holds one part of it at a
-/// time: `PART_LEN` bytes, or a record, or the whole file where its records are aligned; `STALE_LEN`
-/// bytes where it looks for stale records. What it
-/// tells is what a file of any bytes has that the parts are of. It fails where a read does, where
-/// the file is shorter, and for want of memory.
+/// time: `PART_LEN` bytes, or a record, or the whole file if its records are aligned; `STALE_LEN`
+/// bytes while it looks for stale records. The result is the check of a file of any bytes that have
+/// these parts. It fails if a read does, if the file is shorter, and for lack of memory.
 pub fn check_parts<S: PartSource>(
     alloc: Global,
     file: &LogFile,

@@ -1,4 +1,4 @@
-//! A part of a log file behind the file's header, as a file in memory.
+//! A part of a log file after the file's header, as a file in memory.
 ghost use Rattle.std.specs.Prelude.{◌≡◌, ◌++◌, IfErr, IfOk};
 ghost use Rattle.raft_base.specs.declared.errors.Fault.TheVariants.{Memory};
 ghost use Rattle.raft_memory.specs.Memory.{memory_directory};
@@ -8,7 +8,7 @@ use raft_memory::MemoryFileSystem;
 use raft_records::Fault;
 use std::alloc::Global;
 
-/// Files in memory of which one has this path and these bytes.
+/// Files in memory; one of them has this path and these bytes.
 pub fn image_of_part(
     alloc: Global,
     path: &str,

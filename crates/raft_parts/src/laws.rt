@@ -7,10 +7,10 @@ ghost use Rattle.raft_files.specs.declared.format.LogFileFormat.{LogFileFormat};
 ghost use Rattle.raft_dump.specs.Items.{given_after};
 ghost use Rattle.raft_parts.specs.Given.{cursor, end_of_items, items_left, moved};
 
-/// A part of a file's bytes from a place on, behind the file's header: the file gives from that place on
-/// the items that the part gives behind the header, each at its place in the file, and then what
-/// it gives from where these end (`items`); there it stops for what the part stops for, where the
-/// part tells the record there (`stop`).
+/// A part of a file's bytes from a place on, after the file's header. From that place on the file
+/// has the items that the part has after the header, each at its place in the file, and then those
+/// from the end of these on (`items`). There it stops for the same reason as the part, if the part
+/// has the whole record there (`stop`).
 pub fn a_part_gives_what_its_file_gives()
     ensures items { (id : FileId) (format : LogFileFormat) (header bytes part : List ℕ)
         (at len : ℕ) → format.alignment ≡ 0 → part ≡ take len (drop at bytes)

@@ -1,4 +1,4 @@
-//! Log files of which one part at a time is in memory.
+//! Log files with one part at a time in memory.
 #![tactic(auto)]
 
 mod check;

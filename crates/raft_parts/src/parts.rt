@@ -1,4 +1,4 @@
-//! A log file that is read part by part, each behind the file's header.
+//! A log file that is read part by part, each after the file's header.
 ghost use Rattle.std.specs.Prelude.{◌≡◌, ◌++◌, ◌+◌, ◌-◌, ◌^◌, ℕ, List, [], IfErr, IfOk, OnOk, drop, length, min, take};
 ghost use Rattle.raft_memory.specs.Memory.{memory_directory};
 ghost use Rattle.raft_files.specs.Header.{header_of};
@@ -14,14 +14,14 @@ use raft_records::Fault;
 use std::alloc::Global;
 use std::marker::Model;
 
-/// A log file of which one part at a time is in memory. Where its header can't be read, only that is
-/// looked at; where its records are aligned, the whole file is one part.
+/// A log file with one part at a time in memory. If its header cannot be read, only that is read;
+/// if its records are aligned, the whole file is one part.
 #[derive(Drop)]
 pub struct LogFileParts {
-    /// What each part is put behind.
+    /// The header that precedes each part.
     header: Vec<u8>,
     size: usize,
-    /// Where the part begins, and how many bytes it is to have.
+    /// The place at which the part begins, and how many bytes it is to have.
     at: usize,
     len: usize,
     part: Vec<u8>,
@@ -45,7 +45,7 @@ impl Model for LogFileParts {
 }
 
 impl LogFileParts {
-    /// Of a file of this size.
+    /// A file of this size.
     pub fn open<S: PartSource>(
         alloc: Global,
         size: usize,
@@ -88,7 +88,7 @@ impl LogFileParts {
         }
     }
 
-    /// The next part behind the header, as a file of this path in memory.
+    /// The next part after the header, as a file of this path in memory.
     pub fn next_image<S: PartSource>(
         &mut self,
         alloc: Global,
@@ -106,7 +106,7 @@ impl LogFileParts {
         image_of_part(alloc, path, &self.header, &self.part)
     }
 
-    /// Where in the file a place in the image stands.
+    /// The place in the file of a place in the image.
     pub fn place_of(&self, offset: usize) -> usize
         ensures value { result ≡ min (self.now.at + (offset - length self.now.header))
             (2 ^ 64 - 1) }
@@ -115,8 +115,8 @@ impl LogFileParts {
             .saturating_add(offset.saturating_sub(self.header.len()))
     }
 
-    /// Whether a reading that ends at this place in the image goes on in a next part; else it ends there
-    /// in the file too.
+    /// Whether a reading that ends at this place in the image continues in a next part; otherwise
+    /// it ends there in the file too.
     pub fn go_on(&mut self, end: usize) -> bool
         ensures value { GoesOn end self.old result self.new }
     {

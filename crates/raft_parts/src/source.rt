@@ -1,4 +1,4 @@
-//! Where the parts of a log file come from.
+//! Sources of the parts of a log file.
 ghost use Rattle.std.specs.Prelude.{◌≡◌, ◌∷◌, List, IfErr, IfOk, OnErr, length};
 ghost use Rattle.raft_parts.specs.Parts.{IsReadRefusal};
 ghost use Rattle.raft_parts.specs.declared.source.FilePart.{FilePart};
@@ -10,17 +10,17 @@ use std::alloc::Global;
 /// A part of a file's bytes.
 #[derive(Drop)]
 pub struct FilePart {
-    /// The place from which on bytes were asked for, and how many.
+    /// The place from which on bytes were requested, and how many.
     pub at: usize,
     pub len: usize,
-    /// Those that stand there, fewer at the end of the file.
+    /// The bytes there, fewer at the end of the file.
     pub bytes: Vec<u8>,
 }
 
-/// A file whose bytes are read part by part. No clause can say what a system reads: `given` is what
-/// was told of the file.
+/// A file whose bytes are read part by part. No clause can say what a system reads: `given` are the
+/// returned parts.
 pub trait PartSource {
-    /// The parts that were given so far, the newest first.
+    /// The parts that were returned, the newest first.
     ghost given: { Self → List FilePart };
 
     /// So many bytes from a place on, fewer at the end of the file.
@@ -31,8 +31,8 @@ pub trait PartSource {
         ensures cause { IfErr result IsReadRefusal };
 }
 
-/// Exactly so many bytes from a place on. It fails as `Io` where the file ends before, as where it
-/// was cut meanwhile.
+/// Exactly so many bytes from a place on. It fails with `Io` if the file ends before, for example
+/// because it was cut meanwhile.
 pub fn read_whole_part<S: PartSource>(
     alloc: Global,
     path: &str,

@@ -6,8 +6,9 @@ use raft_records::{RECORD_HEADER_LEN, decode_header};
 /// How many bytes of a file are read at once, unless a record needs more.
 pub const PART_LEN: usize = 256 * 1024;
 
-/// Of the bytes behind the last record that was read of a part, `left` bytes before the end of the
-/// file: nothing where they tell whether a record stands there, else how many would tell it.
+/// How many bytes are needed after the last record that was read from a part, `left` bytes before
+/// the end of the file: none if the bytes there decide whether a record follows, else as many as
+/// would decide it.
 pub fn wanted_behind(rest: &[u8], left: usize) -> Option<usize>
     ensures value { IsWanted left rest.now result }
 {

@@ -1,4 +1,4 @@
-//! A queue of log files in the settings' folders: how it is appended to, read, rotated and purged.
+//! A queue of log files in the settings' folders: appends, reads, rotations and purges.
 #![tactic(auto)]
 
 pub mod file_list;

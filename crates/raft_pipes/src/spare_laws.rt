@@ -8,11 +8,11 @@ ghost use Rattle.raft_pipes.specs.Numbered.{IsPathOf, in_queue};
 ghost use Rattle.raft_pipes.specs.QueueFiles.{HasFilesAfter, HasFilesBefore, IsDetectableQueue, IsKeptQueue, IsNoPathOf, LeavesSynced, QueueFile, batches_with, counts_after, queue_after_crash};
 ghost use Rattle.raft_pipes.specs.Counts.{IsLeftOf, QueueCounts};
 
-/// A queue with files of dropped batches right before its own. Any file with a number below its own
-/// may go (`gone`), and come under the number after the last one (`renamed`). Its first own file
-/// may be dropped (`dropped`). At each such moment a crash leaves its batches without some of the
-/// dropped and of the unsynced ones (`keeps`, `left`), which are so split (`split`). A queue
-/// without dropped ones is one of them (`own`).
+/// A queue with files of dropped batches directly before its own. Any file with a number below its
+/// own may go (`gone`), and come under the number after the last one (`renamed`). Its first own
+/// file may be dropped (`dropped`). At each such moment a crash leaves its batches without some of
+/// the dropped and of the unsynced ones (`keeps`, `left`), which are split in that way (`split`). A
+/// queue without dropped ones is one of them (`own`).
 pub fn files_below_may_go()
     ensures own { (folders : List Path) (queue : LogQueue) (first : ℕ) (before : List QueueFile)
         (seq : ℕ) (path : Path) (n : Directory)

@@ -12,8 +12,7 @@ use raft_base::{FileId, FileSeq, LogQueue};
 use raft_tables::{MemTable, MemTables};
 use std::alloc::{AllocError, Global};
 
-/// Which queues a purge rewrites: the Rewrite queue, and of the Append queue what stands at or before a
-/// watermark.
+/// Which queues a purge rewrites: the Rewrite queue, and the Append queue at or before a watermark.
 #[derive(Clone, Copy, Debug, PartialEq, Eq)]
 pub struct Needs {
     pub rewrite: bool,
@@ -31,24 +30,24 @@ pub struct Watermarks {
 #[derive(Clone, Copy, Debug, PartialEq, Eq)]
 pub struct Decision {
     pub group: u64,
-    /// The Rewrite queue is rewritten, and many of the group's entries stand there.
+    /// The Rewrite queue is rewritten, and has many of the group's entries.
     pub is_often_rewritten: bool,
-    /// What is done about what stands in the Append queue.
+    /// The decision about its data in the Append queue.
     pub choice: Choice,
 }
 
-/// Those of which one of these is so.
+/// The groups for which one of these holds.
 #[derive(Clone, Copy, Debug, PartialEq, Eq)]
 pub enum Chosen {
-    /// Their compaction is asked for.
+    /// Their compaction is requested.
     Asked,
-    /// .. since they are old and heavy.
+    /// The same, because they are old and heavy.
     Heavy,
     /// They are rewritten.
     Rewritten,
 }
 
-/// What is decided about each known group, in order, where groups were asked for so often.
+/// The decision about each known group, in order, with these counts of requests.
 pub fn decide_all(
     alloc: Global,
     tables: &MemTables,
@@ -112,7 +111,7 @@ fn decide_of(table: &MemTable, group: u64, needs: &Needs, is_due: bool) -> Decis
     }
 }
 
-/// What a group takes of the log, seen from a watermark of the Append queue.
+/// What a group has in the log, seen from a watermark of the Append queue.
 pub fn group_use(table: &MemTable, watermark: FileSeq) -> GroupUse
     ensures value { result ≡ use_of watermark table.now }
 {
@@ -144,7 +143,7 @@ fn below_end(first: FileSeq) -> Option<FileSeq>
 }
 
 impl Decision {
-    /// Whether this is so of the group.
+    /// Whether this holds for the group.
     pub fn is(&self, chosen: Chosen) -> bool
         ensures value { result ≡ chosen_by chosen self.now }
     {
@@ -156,7 +155,7 @@ impl Decision {
     }
 }
 
-/// The groups of which this was decided, in order.
+/// The groups with this decision, in order.
 pub fn groups_by(
     alloc: Global,
     decisions: &[Decision],

@@ -10,8 +10,8 @@ pub struct QueueUse {
     pub bytes: u64,
 }
 
-/// The entries that were placed in the Rewrite queue, and how many of them have left their places since; a reset takes
-/// the second number from the first.
+/// The entries that were placed in the Rewrite queue, and how many of them have left their places
+/// since; a reset subtracts the second number from the first.
 #[derive(Clone, Copy, Debug, PartialEq, Eq)]
 pub struct RewrittenEntries {
     pub rewritten: u64,
@@ -33,8 +33,8 @@ fn is_above(queue: QueueUse, threshold: ReadableSize) -> bool
     queue.files > 1 && queue.bytes > threshold.0
 }
 
-/// Whether the Rewrite queue is to be rewritten: it is above its threshold in the same way, and of the rewritten entries
-/// more than this ratio, in thousandths, are garbage.
+/// Whether the Rewrite queue is to be rewritten: it is above its threshold in the same way, and the
+/// garbage among the rewritten entries is more than this ratio, in thousandths.
 pub fn rewrite_needs_rewrite(
     queue: QueueUse,
     threshold: ReadableSize,

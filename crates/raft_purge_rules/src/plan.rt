@@ -12,9 +12,8 @@ use crate::rounds::Rounds;
 use raft_tables::MemTables;
 use std::alloc::{AllocError, Global};
 
-/// What a purge is to do: which groups are asked for, and which are rewritten, both in ascending
-/// order, and how often in a row groups were asked for once it is done. Where the Append queue isn't
-/// rewritten that stays.
+/// The plan of a purge: which groups to request and which to rewrite, both in ascending order, and
+/// the counts of requests in a row after it. They stay if the Append queue is not rewritten.
 #[derive(Debug, Drop)]
 pub struct PurgePlan {
     pub asked: Vec<u64>,
@@ -22,8 +21,8 @@ pub struct PurgePlan {
     pub rounds: Option<Rounds>,
 }
 
-/// The plan of a purge that rewrites these queues, where groups were asked for so often. Nothing but
-/// memory is wanting where it fails.
+/// The plan of a purge that rewrites these queues, with these counts of requests. It fails only for
+/// lack of memory.
 pub fn plan_purge(
     alloc: Global,
     tables: &MemTables,
@@ -45,7 +44,7 @@ pub fn plan_purge(
     })
 }
 
-/// The counts after a purge, and none where they stay.
+/// The counts after a purge; none if they stay.
 fn next_rounds(
     alloc: Global,
     decisions: &[Decision],

@@ -1,4 +1,4 @@
-//! How often in a row groups were asked for.
+//! How often in a row the compaction of groups was requested.
 ghost use Rattle.std.specs.Prelude.{◌≡◌, ◌==◌, ℕ, nat_le, true, IfOk, OnOk, if◌then◌else◌};
 ghost use Rattle.std.specs.List.{list_any};
 ghost use Rattle.raft_purge_rules.specs.Rounds.{next_round, rounds_of};
@@ -6,10 +6,11 @@ ghost use Rattle.raft_purge_rules.specs.Rounds.{next_round, rounds_of};
 use std::alloc::{AllocError, Global};
 use std::collections::BTreeMap;
 
-/// In so many rounds in a row a group is asked for and not rewritten.
+/// The number of rounds in a row in which a group is requested and not rewritten.
 pub const MAX_ROUNDS: u32 = 9;
 
-/// Of each group, in how many purges in a row it was asked for and not rewritten.
+/// For each group, in how many purges in a row its compaction was requested and it was not
+/// rewritten.
 #[derive(Debug, Drop)]
 pub struct Rounds {
     alloc: Global,
@@ -17,7 +18,7 @@ pub struct Rounds {
 }
 
 impl Rounds {
-    /// No group was asked for. It takes no memory.
+    /// No group was requested. It takes no memory.
     pub fn new(alloc: Global) -> Rounds
         ensures value { (group : ℕ) → rounds_of result group ≡ 0 }
     {
@@ -36,7 +37,7 @@ impl Rounds {
         }
     }
 
-    /// Whether a group that is asked for once more is rewritten.
+    /// Whether a group is rewritten if it is requested once more.
     pub fn is_due(&self, group: u64) -> bool
         ensures value { result ≡ nat_le 9 (rounds_of self.now group) }
     {
@@ -58,8 +59,8 @@ impl Rounds {
         Ok(())
     }
 
-    /// The counts after one more purge, which asks for these groups: each of them has one more, but those that were due
-    /// begin anew, and so do all others.
+    /// The counts after one more purge, which requests these groups: each of them has one more, but
+    /// those that were due begin again, and so do all others.
     pub fn after(&self, asked: &[u64]) -> Result<Rounds, AllocError>
         ensures value { IfOk result (λ rounds. (group : ℕ) → rounds_of rounds group
             ≡ next_round (list_any (λ one. one == group) asked.now) (rounds_of self.now group)) }

@@ -1,11 +1,11 @@
-//! Up to which file a purge rewrites, and before which it asks for compactions.
+//! Up to which file a purge rewrites, and before which it requests compactions.
 ghost use Rattle.std.specs.Prelude.{◌≡◌, ◌≤◌};
 ghost use Rattle.raft_purge_rules.specs.Watermarks.{compact_watermark, rewrite_watermark, watermark};
 
 use raft_base::FileSeq;
 
-/// Of the files from `first` to `last`, the one at seven tenths, before the last one: what stands in it or before it is
-/// rewritten.
+/// Of the files from `first` to `last`, the one at seven tenths, before the last one: data in it or
+/// before it is rewritten.
 pub fn rewrite_watermark(first: FileSeq, last: FileSeq) -> FileSeq
     requires { first ≤ last }
     ensures value { result ≡ rewrite_watermark first last }
@@ -13,8 +13,8 @@ pub fn rewrite_watermark(first: FileSeq, last: FileSeq) -> FileSeq
     watermark(first, last, 7)
 }
 
-/// Of the files from `first` to `last`, the one at two tenths, before the last one: a group that refers to a file before
-/// it is old.
+/// Of the files from `first` to `last`, the one at two tenths, before the last one: a group that
+/// refers to a file before it is old.
 pub fn compact_watermark(first: FileSeq, last: FileSeq) -> FileSeq
     requires { first ≤ last }
     ensures value { result ≡ compact_watermark first last }

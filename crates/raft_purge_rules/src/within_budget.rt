@@ -16,8 +16,9 @@ pub struct NextGroups {
     pub next: Option<u64>,
 }
 
-/// The known groups from a number on: as many as have `budget` bytes of entries and values in the
-/// Append queue's files up to a watermark together, or without one in the Rewrite queue, but one at least.
+/// The known groups from a number on: as many as have together at most `budget` bytes of entries
+/// and values in the Append queue's files up to a watermark, or without one in the Rewrite queue,
+/// but at least one.
 pub fn next_groups(
     alloc: Global,
     tables: &MemTables,

@@ -25,16 +25,16 @@ ghost use Rattle.raft_files.specs.declared.format.LogFileFormat.{LogFileFormat};
 
 /// The premise can be met. Storage may leave each consistent file with all its bytes now, with
 /// those of its last sync, or torn: of the places touched since, only the first few hold their
-/// bytes (`allowed`), and what no change touched is left as it was (`untouched`). Where no failed
-/// call brought the records of a file, the damage of a crash is detectable that leaves the first of
-/// them as they stand now and after them none that decodes (`first_records`), as a torn file that
-/// keeps those does (`torn`). None decodes where zeros alone stand (`zeros`); so of a log with all
-/// bytes or those of its last sync it is detectable (`detectable`). A file that was renamed may hold
-/// stale bytes: where nothing was written since no record may decode in it (`HasNoStaleRecord`), as
-/// is so of one that never was renamed (`never_renamed`). Of a file in any state the damage is
-/// detectable where no call brought a record but the one that it was to write, and what such an
-/// outcome leaves is read as a prefix of what was read at a moment since the last sync (`own`), as
-/// all bytes are (`read_now`), and those of the last sync (`read_synced`).
+/// bytes (`allowed`), and untouched bytes are left as they were (`untouched`). If no failed call
+/// brought the records of a file, the damage of a crash is detectable that leaves the first of them
+/// as they are now and after them none that decodes (`first_records`), as a torn file that keeps
+/// those does (`torn`). Zeros do not decode (`zeros`), so for a log with all bytes or those of its
+/// last sync it is detectable (`detectable`). A file that was renamed may hold stale bytes: if
+/// nothing was written since, no record may decode in it (`HasNoStaleRecord`), as in one that never
+/// was renamed (`never_renamed`). For a file in any state the damage is detectable if no call
+/// brought a record except the one that it was to write, and what such an outcome leaves is read as
+/// a prefix of what was read at a moment since the last sync (`own`), as all bytes are
+/// (`read_now`), and those of the last sync (`read_synced`).
 pub fn premise_can_be_met()
     ensures allowed { (choices : List Choice) (n : Directory) → NameNoBytes choices
         → AreConsistent n → Leaves n (left_by choices n) }
@@ -81,11 +81,11 @@ pub fn premise_can_be_met()
 {}
 
 /// The damage of a crash that leaves each file with all its bytes now or those of its last sync is
-/// detectable of a queue of whose last file only writes failed, and no failed call brought a record,
-/// where nothing in it decodes that it held when it was renamed, if it was (`detectable`). So is that
-/// of a crash which leaves of the last file the first of the records that can be read of it, and after
-/// them none that decodes (`first_records`). Openings of `raft_pipes` give such queues, and the calls
-/// of pipes keep them.
+/// detectable for a queue under three conditions: only writes failed on its last file, no failed
+/// call brought a record, and nothing in it decodes that it held when it was renamed, if it was
+/// (`detectable`). The same holds for a crash that leaves of the last file the first of its
+/// readable records, and after them none that decodes (`first_records`). Openings of `raft_pipes`
+/// return such queues, and the calls of pipes keep them.
 pub fn damage_of_a_queue_is_detectable()
     ensures detectable { (queue : LogQueue) (p : PipeState) (folders : Folders)
         (batches : List Batch) (counts : QueueCounts) (n : Directory)

@@ -1,4 +1,5 @@
-//! What a crash leaves of a queue and of its files, and when the premise on damage can be met: laws alone.
+//! What a crash leaves of a queue and of its files, and when the premise on damage can be met. Only
+//! laws.
 #![tactic(auto)]
 
 pub mod damage;

@@ -11,7 +11,7 @@ struct Case {
     chunks: (usize, usize),
 }
 
-static CASES: [Case; 9] = [
+static CASES: [Case; 12] = [
     Case {
         threads: 1,
         files: (5, 0),
@@ -47,6 +47,24 @@ static CASES: [Case; 9] = [
         files: (0, 3),
         workers: (3, 3),
         chunks: (1, 1),
+    },
+    Case {
+        threads: 4,
+        files: (19, 1),
+        workers: (4, 1),
+        chunks: (5, 1),
+    },
+    Case {
+        threads: 8,
+        files: (3, 1),
+        workers: (3, 1),
+        chunks: (1, 1),
+    },
+    Case {
+        threads: 0,
+        files: (3, 1),
+        workers: (1, 1),
+        chunks: (3, 1),
     },
     Case {
         threads: 3,

@@ -5,9 +5,9 @@ ghost use Rattle.raft_records.specs.Item.{Batch, group_mark_key};
 ghost use Rattle.raft_recovery_laws.specs.Recovered.{items_of, recovered, replay};
 ghost use Rattle.raft_recovery_laws.specs.Bounds.{AreItemsBelow, HasIndexesBelow};
 
-/// What batches leave has no index at or past a bound of theirs (`below`), so that a compaction to
-/// 2^64 - 1 empties a group; and nothing at the key of the marks of atomic groups (`marks`), also
-/// where it is recovered (`recovered`), so that no batch of values begins with such a mark.
+/// Batches leave no index at or past a bound of theirs (`below`), so a compaction to 2^64 - 1
+/// empties a group. They leave nothing at the key of the marks of atomic groups (`marks`), also
+/// after a recovery (`recovered`), so no batch of values begins with such a mark.
 pub fn batches_never_leave_these()
     ensures below { (bound : ℕ) (batches : List Batch) → AreItemsBelow bound (items_of batches)
         → HasIndexesBelow bound (after_batches no_contents batches) }

@@ -5,9 +5,9 @@ ghost use Rattle.raft_recovery_laws.specs.Consecutive.{HaveConsecutiveEntries};
 ghost use Rattle.raft_recovery_laws.specs.DroppingFront.{HoldsDropped};
 ghost use Rattle.raft_recovery_laws.specs.Recovered.{effect, recovered};
 
-/// The first batches of the Append queue may be dropped where the Rewrite queue holds what the
-/// others leave alone of what is recovered, and nothing of a group right before its entries or
-/// after them, nor a key that isn't there (`dropped`); and nowhere else (`needed`).
+/// The first batches of the Append queue may be dropped if the Rewrite queue holds the part of the
+/// recovered contents that the others leave, and nothing of a group directly before its entries or
+/// after them, nor a key that does not exist (`dropped`); and only then (`needed`).
 pub fn a_dropped_front_changes_nothing()
     ensures dropped { (rewritten front rest : List Batch) → HaveConsecutiveEntries rewritten
         → HaveConsecutiveEntries (front ++ rest)

@@ -8,12 +8,12 @@ ghost use Rattle.raft_recovery_laws.specs.Dropping.{HoldsLeft, IsLaterPart, Shar
 ghost use Rattle.raft_recovery_laws.specs.Groups.{is_complete, is_of_group, places_in};
 ghost use Rattle.raft_recovery_laws.specs.Recovered.{effect, recovered};
 
-/// The old batches of the Rewrite queue may be dropped where the new ones hold all that is
-/// recovered and that the Append queue leaves alone (`dropped`). The new ones with some of the old
-/// before them hold it too (`more`): so the old ones may go file by file, and files that are
-/// dropped may still stand. No atomic group may have batches both among the old ones and among the
-/// new. The premise is exact: whatever is recovered of the new ones alone, they hold (`exact`). And
-/// what they leave is the later part of what all leave (`later`).
+/// The old batches of the Rewrite queue may be dropped if the new ones hold everything recovered
+/// that the Append queue leaves (`dropped`). The new ones with some of the old before them hold it
+/// too (`more`): so the old ones may go file by file, and dropped files may still exist. No atomic
+/// group may have batches both among the old ones and among the new. The premise is exact: whatever
+/// is recovered from only the new ones, they hold (`exact`). And what they leave is the later part
+/// of what all leave (`later`).
 pub fn dropped_rewrite_files_change_nothing()
     ensures dropped { (old new appended : List Batch) → ShareNoGroup old new
         → HaveConsecutiveEntries old → HaveConsecutiveEntries new
@@ -31,9 +31,9 @@ pub fn dropped_rewrite_files_change_nothing()
 {}
 
 /// Files may be dropped up to one that ends inside an atomic group. The rest of that group, which
-/// isn't complete without its first batch, then stands before all others and changes nothing. What
-/// is recovered has to be in the batches after it (`cut`); it is where the new ones at their end
-/// hold it (`rest`).
+/// is incomplete without its first batch, then precedes all others and changes nothing. The
+/// recovered contents have to be in the batches after it (`cut`), as they are if the new ones at
+/// their end hold them (`rest`).
 pub fn files_that_end_inside_a_group_may_be_dropped()
     ensures cut { (id : ℕ) (front tail new appended : List Batch)
         → IsTrue (list_all (is_of_group id) tail) → is_complete (places_in id tail) ≡ false

@@ -7,9 +7,9 @@ ghost use Rattle.raft_records.specs.Item.{Batch};
 ghost use Rattle.raft_recovery_laws.specs.Groups.{first_place, has_last, is_complete, is_of_group, mark_of, places_in};
 ghost use Rattle.raft_recovery_laws.specs.Recovered.{effect};
 
-/// Batches of an atomic group that isn't complete change nothing of the Rewrite queue's contents,
-/// wherever they stand (`incomplete`). Those of a complete group are applied in order (`complete`),
-/// and so is a batch without a mark (`unmarked`).
+/// Batches of an incomplete atomic group change nothing of the Rewrite queue's contents, wherever
+/// they are (`incomplete`). Those of a complete group are applied in order (`complete`), and so is
+/// a batch without a mark (`unmarked`).
 pub fn an_atomic_group_counts_when_complete()
     ensures incomplete { (id : ℕ) (old group more : List Batch) → places_in id old ≡ []
         → places_in id more ≡ [] → list_all (is_of_group id) group ≡ true
@@ -22,8 +22,8 @@ pub fn an_atomic_group_counts_when_complete()
         → effect (old ++ batch ∷ []) ≡ after_batch (effect old) batch }
 {}
 
-/// A group isn't complete where its last batch isn't there, as while it is written (`no_last`), or
-/// its first one, as where the file with it was dropped (`no_first`).
+/// A group is incomplete without its last batch, as while it is written (`no_last`), or without its
+/// first one, as when the file with it was dropped (`no_first`).
 pub fn a_group_without_an_end_is_incomplete()
     ensures no_last { (places : List (List ℕ)) → has_last places ≡ false
         → is_complete places ≡ false }

@@ -1,4 +1,4 @@
-//! What an opening finds where batches are appended, and where older ones still stand before these.
+//! What an opening finds after appends, also if older batches still precede them.
 ghost use Rattle.std.specs.Prelude.{◌≡◌, ◌++◌, ◌∷◌, List, []};
 ghost use Rattle.raft_records.specs.Contents.{Contents, after_batch, after_batches, no_contents};
 ghost use Rattle.raft_records.specs.Item.{Batch};
@@ -7,9 +7,9 @@ ghost use Rattle.raft_recovery_laws.specs.Consecutive.{HasConsecutiveEntries, Ha
 ghost use Rattle.raft_recovery_laws.specs.Recovered.{effect, recovered, replay};
 ghost use Rattle.raft_recovery_laws.specs.Valid.{AreValidBatches};
 
-/// Where the Rewrite queue is empty, the Append queue's batches are found one after the other
-/// (`alone`). A batch that is valid for what is found is found after it (`one`), and so are batches
-/// that are valid one after the other (`all`), whatever the Rewrite queue holds.
+/// If the Rewrite queue is empty, the Append queue's batches are found one after the other
+/// (`alone`). A batch that is valid for the found contents is found after them (`one`), and so are
+/// batches that are valid one after the other (`all`), whatever the Rewrite queue holds.
 pub fn valid_batches_are_found()
     ensures alone { (appended : List Batch)
         → recovered [] appended ≡ after_batches no_contents appended }
@@ -25,10 +25,10 @@ pub fn valid_batches_are_found()
         ≡ after_batches (recovered rewritten appended) batches }
 {}
 
-/// The Append queue's batches change nothing of what was found with them (`again`). Where batches
-/// change nothing of contents, the later ones of them change nothing (`later`); and where those
-/// contents are found with the later ones alone, they are found with all (`older`). So a dropped
-/// file may still stand, as long as the files after it do. All hold for any contents with
+/// The Append queue's batches change nothing of the contents that were found with them (`again`).
+/// If batches change nothing of contents, the later ones of them change nothing (`later`); and if
+/// those contents are found with only the later ones, they are found with all (`older`). So a
+/// dropped file may still exist while the files after it do. All hold for any contents with
 /// consecutive entries, as those of the Rewrite queue are (`rewritten`).
 pub fn older_batches_change_nothing()
     ensures again { (x : Contents) (appended : List Batch) → HasConsecutiveEntries x

@@ -1,4 +1,4 @@
-//! What may be appended to the Rewrite queue, so that nothing of what is recovered changes.
+//! What may be appended to the Rewrite queue without a change of the recovered contents.
 ghost use Rattle.std.specs.Prelude.{◌≡◌, ◌≤◌, ◌++◌, ◌∷◌, ℕ, List, [], true, false, None, Some, IsTrue};
 ghost use Rattle.std.specs.List.{list_all};
 ghost use Rattle.std.specs.Str.{bytes_eq};
@@ -10,10 +10,9 @@ ghost use Rattle.raft_recovery_laws.specs.Groups.{is_complete, is_of_group, mark
 ghost use Rattle.raft_recovery_laws.specs.Recovered.{effect, items_of, leaves_key, recovered, replay};
 ghost use Rattle.raft_recovery_laws.specs.Rewriting.{ChangesNothing, EachChangesNothing, EachLeft, FitsRewrite, IsSetByAppend};
 
-/// Marks of what was removed. A delete changes nothing where the key isn't there or the Append
-/// queue sets it (`deleted`), a compaction where no entry below it is left that the Append queue
-/// leaves alone (`compacted`), a clean where all that the group has is the Append queue's own
-/// (`cleaned`).
+/// Marks of removals. A delete changes nothing if the key does not exist or the Append queue sets
+/// it (`deleted`), a compaction if no entry below it remains that the Append queue leaves
+/// (`compacted`), a clean if everything that the group has is the Append queue's own (`cleaned`).
 pub fn marks_change_nothing()
     ensures deleted { (x : Contents) (appended : List Batch) (group : ℕ) (key : List ℕ)
         → (leaves_key appended group key ≡ true → (replay x appended).value group key ≡ None)
@@ -28,8 +27,8 @@ pub fn marks_change_nothing()
         → ChangesNothing x appended (record { group = group; content = Clean }) }
 {}
 
-/// What is there may be written again: a key with the value that it has, or that the Append queue
-/// sets (`key`), and entries that fit (`entries`); the mark of an atomic group is no key (`mark`).
+/// Existing data may be written again: a key with its value, or one that the Append queue sets
+/// (`key`), and entries that fit (`entries`); the mark of an atomic group is no key (`mark`).
 pub fn rewriting_changes_nothing()
     ensures key { (x : Contents) (appended : List Batch) (group : ℕ) (key value : List ℕ)
         → (leaves_key appended group key ≡ true
@@ -44,8 +43,8 @@ pub fn rewriting_changes_nothing()
         → ChangesNothing x appended (mark_item id mark) }
 {}
 
-/// These premises are exact: where a delete, a compaction, a clean or a put of a key changes
-/// nothing, it meets its own.
+/// These premises are exact: if a delete, a compaction, a clean or a put of a key changes nothing,
+/// it meets its own.
 pub fn what_changes_nothing_meets_its_premise()
     ensures deleted { (x : Contents) (appended : List Batch) (group : ℕ) (key : List ℕ)
         → ChangesNothing x appended (record { group = group; content = Delete key })
@@ -65,8 +64,8 @@ pub fn what_changes_nothing_meets_its_premise()
         → (replay x appended).value group key ≡ Some value }
 {}
 
-/// Entries that are written in two parts, the second starting right after the first, are the same
-/// as those written at once. So the batches of an atomic group may share them.
+/// Entries that are written in two parts, the second starting directly after the first, are the
+/// same as those written at once. So the batches of an atomic group may share them.
 pub fn entries_in_parts_are_the_same_as_at_once()
     ensures parts { (x : Contents) (group : ℕ) (es fs : List Entry)
         → IsTrue (are_consecutive (x.entries group)) → IsTrue (are_consecutive (es ++ fs))
@@ -75,10 +74,10 @@ pub fn entries_in_parts_are_the_same_as_at_once()
         ≡ after_item x (record { group = group; content = Entries (es ++ fs) }) }
 {}
 
-/// Where each item changes nothing after those before it, their batch changes nothing: one without
-/// a mark (`unmarked`), and a complete atomic group at its end (`items`). An item of a complete
-/// group may change something by itself, as a first part of the entries that are there does, where
-/// the group as a whole changes nothing (`group`).
+/// If each item changes nothing after those before it, their batch changes nothing: one without a
+/// mark (`unmarked`), and a complete atomic group at its end (`items`). An item of a complete group
+/// may change something by itself, for example a first part of the existing entries, if the group
+/// as a whole changes nothing (`group`).
 pub fn batches_of_such_items_change_nothing()
     ensures unmarked { (old appended : List Batch) (batch : Batch) → mark_of batch ≡ None
         → EachChangesNothing (effect old) appended batch
@@ -93,8 +92,8 @@ pub fn batches_of_such_items_change_nothing()
         → recovered (old ++ group) appended ≡ recovered old appended }
 {}
 
-/// A group is written batch by batch. While it isn't complete a further batch of it changes nothing
-/// (`open`); its last one changes nothing where the group as a whole doesn't (`last`). So a crash
+/// A group is written batch by batch. While it is incomplete a further batch of it changes nothing
+/// (`open`); its last one changes nothing if the group as a whole does not (`last`). So a crash
 /// inside it finds what was found before it.
 pub fn a_group_may_be_written_batch_by_batch()
     ensures open { (id : ℕ) (old group appended : List Batch) (batch : Batch)

@@ -1,4 +1,4 @@
-//! What a crash finds of queues that stand for contents, and the steps that keep them so.
+//! What a crash finds of queues that give contents, and the steps that keep it so.
 ghost use Rattle.std.specs.Prelude.{◌≡◌, ◌++◌, ◌∷◌, ℕ, List, [], take, drop};
 ghost use Rattle.raft_records.specs.Contents.{Contents, after_batches};
 ghost use Rattle.raft_records.specs.Item.{Batch};
@@ -8,10 +8,10 @@ ghost use Rattle.raft_recovery_laws.specs.Recovered.{effect, recovered};
 ghost use Rattle.raft_recovery_laws.specs.Dropping.{HoldsLeft, ShareNoGroup};
 ghost use Rattle.raft_recovery_laws.specs.Stands.{Queues, Stands, found_after_crash, left_by_crash, synced_queues};
 
-/// After every crash, whatever it leaves of the unsynced ends of both queues and of dropped files
-/// of the Append queue, the durable contents are found, with a prefix of the batches written since
-/// (`crash`). Queues of which all is synced stand for what is recovered of them, whatever they hold
-/// (`opened`); so where an opening syncs what a crash left, it stands for that (`reopened`).
+/// Every crash, whatever it leaves of the unsynced ends of both queues and of dropped files of the
+/// Append queue, finds the durable contents, with a prefix of the batches written since (`crash`).
+/// Queues that are wholly synced give what is recovered of them, whatever they hold (`opened`). So
+/// after an opening that syncs what a crash left, they give that (`reopened`).
 pub fn a_crash_finds_what_the_queues_stand_for()
     ensures crash { (q : Queues) (m : Contents) (i j k : ℕ) → Stands q m
         → found_after_crash q i j k ≡ after_batches m (take k q.appended_since) }
@@ -22,11 +22,11 @@ pub fn a_crash_finds_what_the_queues_stand_for()
         → Stands (left_by_crash q i j k) (after_batches m (take k q.appended_since)) }
 {}
 
-/// Steps of the Append queue. A valid batch may be written at any time (`written`), and what was
+/// Steps of the Append queue. A valid batch may be written at any time (`written`), and batches
 /// written since the last sync may be truncated (`truncated`); after a sync it is durable
-/// (`synced`). A front may be dropped where the same is recovered without it, with the Rewrite
-/// queue as it is synced (`dropped`), so that queue is synced first. Older batches may go, from the
-/// first on (`gone`).
+/// (`synced`). A front may be dropped if the same is recovered without it, with the Rewrite queue
+/// as it is synced (`dropped`), so that queue is synced first. Older batches may go, from the first
+/// on (`gone`).
 pub fn steps_of_the_append_queue_keep_contents()
     ensures written { (q : Queues) (m : Contents) (batch : Batch) → Stands q m
         → IsValidBatch (after_batches m q.appended_since) batch
@@ -45,7 +45,7 @@ pub fn steps_of_the_append_queue_keep_contents()
 {}
 
 /// Steps of the Rewrite queue. A batch that changes nothing of what is recovered with the Append
-/// queue's synced batches may be written (`written`); so what it says of the contents holds of the
+/// queue's synced batches may be written (`written`). So what it says of the contents holds for the
 /// synced ones, and the Append queue is synced first. A sync keeps the contents (`synced`), and so
 /// does a drop of old files, after which the same is recovered (`dropped`).
 pub fn steps_of_the_rewrite_queue_keep_contents()
@@ -63,10 +63,10 @@ pub fn steps_of_the_rewrite_queue_keep_contents()
         → Stands (record q { rewritten = new }) m }
 {}
 
-/// Files are dropped one after the other. Of a front of the Append queue that may be dropped any
-/// first part may be gone, while the rest still stands (`front`); and so of old files of the Rewrite
-/// queue, where no atomic group has batches on both sides of where they end (`old`). Older batches
-/// that stand are as good as synced ones (`standing`).
+/// Files are dropped one after the other. If a front of the Append queue may be dropped, any first
+/// part of it may be gone while the rest still exists (`front`). The same holds for old files of
+/// the Rewrite queue, if no atomic group has batches on both sides of their end (`old`). Older
+/// existing batches are as good as synced ones (`standing`).
 pub fn files_may_go_one_after_the_other()
     ensures standing { (q : Queues) (m : Contents) → Stands q m
         → Stands (record q { older = []; appended = q.older ++ q.appended }) m }

@@ -1,4 +1,4 @@
-//! What may be written to the Rewrite queue and dropped of both, while they stand for contents.
+//! What may be written to the Rewrite queue and dropped from both, while they give contents.
 ghost use Rattle.std.specs.Prelude.{◌≡◌, ◌⊎◌, ◌++◌, ◌∷◌, ℕ, List, [], false, None, IsTrue};
 ghost use Rattle.std.specs.List.{list_all};
 ghost use Rattle.raft_records.specs.Contents.{Contents};

@@ -1,4 +1,4 @@
-//! What chunks of batches leave that were applied apart.
+//! What chunks of batches leave that were applied separately.
 ghost use Rattle.std.specs.Prelude.{◌≡◌, ◌++◌, ◌||◌, ◌&&◌, not, is_some, ℕ, List, filter, if◌then◌else◌};
 ghost use Rattle.raft_records.specs.Contents.{Contents, after_batches, no_contents, with_entries};
 ghost use Rattle.raft_records.specs.Item.{Batch};
@@ -7,9 +7,9 @@ ghost use Rattle.raft_recovery_laws.specs.Consecutive.{HaveConsecutiveEntries};
 ghost use Rattle.raft_tables.specs.Known.{known_in};
 ghost use Rattle.raft_recovery_laws.specs.Recovered.{leaves, leaves_key, replay};
 
-/// What two chunks reach, one after the other, is what all their batches reach (`reach`), and it
-/// tells which older entries they leave alone (`left`). They leave alone the keys that they neither
-/// deleted nor hold, where they didn't clean the group (`keys`).
+/// The reach of two chunks, one after the other, is that of all their batches (`reach`), and it
+/// decides which older entries remain (`left`). Older keys remain that they neither deleted nor
+/// hold, if they did not clean the group (`keys`).
 pub fn reaches_of_chunks_join()
     ensures reach { (group : ℕ) (older newer : List Batch) → reach_in group (older ++ newer)
         ≡ reach_then (reach_in group older) (reach_in group newer) }
@@ -23,8 +23,8 @@ pub fn reaches_of_chunks_join()
         || is_some ((after_batches no_contents batches).value group key))) }
 {}
 
-/// What all batches leave, older and then newer ones, is what the older ones leave, as far as the
-/// newer ones let it stand, with what these leave themselves.
+/// All batches, older and then newer ones, leave what the older ones leave, if the newer ones
+/// permit it, with what these leave themselves.
 pub fn chunks_apart_leave_what_they_leave_in_order()
     ensures entries { (older newer : List Batch) → HaveConsecutiveEntries (older ++ newer)
         → (group : ℕ) → (after_batches no_contents (older ++ newer)).entries group

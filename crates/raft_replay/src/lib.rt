@@ -1,5 +1,5 @@
-//! What an opening replays: the batches of a queue in chunks, each into tables of its own, and what those of
-//! both queues leave.
+//! What an opening replays: the batches of a queue in chunks, each into its own tables, and the
+//! contents of both queues.
 #![tactic(auto)]
 
 pub mod chunk_list;

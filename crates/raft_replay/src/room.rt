@@ -2,15 +2,15 @@
 
 use std::alloc::Global;
 
-/// So many items are taken before room is made, and again each time.
+/// The number of items after which room is reserved, again and again.
 const ITEMS: usize = 4096;
 
-/// The bytes that are asked for: more than so many items mostly take.
+/// The bytes that are requested: more than so many items mostly take.
 const BYTES: usize = 4 << 20;
 
-/// Counts items that are taken, and makes room in memory ahead of them. A thread's own memory
-/// grows by a call of the system for each page, which all threads wait for; by a larger request,
-/// which is let go at once and never written to, it grows in one step.
+/// Counts items that are taken, and reserves room in memory ahead of them. A thread's own memory
+/// grows by a system call for each page, and all threads wait for it. After a larger request, which
+/// is freed at once and never written to, it grows in one step.
 #[derive(Drop)]
 pub(crate) struct RoomAhead {
     left: usize,
@@ -21,7 +21,7 @@ impl RoomAhead {
         RoomAhead { left: ITEMS }
     }
 
-    /// Counts so many more. A request that is refused leaves all as it is.
+    /// Counts so many more. A failed request changes nothing.
     pub(crate) fn count(&mut self, alloc: Global, items: usize) {
         if items < self.left {
             self.left -= items;

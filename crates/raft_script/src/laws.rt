@@ -8,11 +8,11 @@ ghost use Rattle.raft_script.specs.Numbers.{acts_in};
 ghost use Rattle.raft_script.specs.declared.operation.Op.{Op};
 
 /// The acts of runs join over crashes, so that `raft_once::laws::a_number_acts_once` speaks of all
-/// of them. What an operation has in flight are acts that may be written then (`flight`). A crash
-/// leaves the contents after so many of the acts, the first ones, and these may all be written
-/// (`left`). What may be written at the contents that acts left may be written behind them
-/// (`joined`), by the same engine or one that is opened after a crash: so a number whose act is
-/// left doesn't act again, and one whose act was lost may.
+/// of them. The batches that an operation has in flight are acts that may be written then
+/// (`flight`). A crash leaves the contents after a prefix of the acts, and these may all be written
+/// (`left`). Acts that may be written at the contents that acts left may be written after them
+/// (`joined`), by the same engine or one that is opened after a crash. So a number whose act is
+/// left does not act again, and one whose act was lost may.
 pub fn numbers_act_once_over_crashes()
     ensures flight { (m : Contents) (op : Op) (flight : List Batch) → MayBeInFlight m op flight
         → ∥ MayAllAct m (acts_in op flight) × (are_written (acts_in op flight) ≡ flight) ∥₁ }

@@ -1,4 +1,4 @@
-//! Operations on an engine, and what they are answered.
+//! Operations on an engine, and their results.
 
 use crate::text_entry::TextEntry;
 use raft_log_engine::Image;
@@ -20,12 +20,12 @@ pub enum Act {
 /// A call of an engine.
 #[derive(Debug, PartialEq, Eq, Drop)]
 pub enum Op {
-    /// The acts as one batch, synced where that is asked.
+    /// The acts as one batch, with a sync if requested.
     Write(Vec<Act>, bool),
-    /// The same once: with numbers, each of a group, which act where they are greater than those
-    /// that the groups keep.
+    /// The same once: with numbers, each of a group, which act if they are greater than those that
+    /// the groups keep.
     WriteOnce(Vec<Act>, Vec<(u64, u64)>, bool),
-    /// Several batches at once, then a sync where one of them asks for it.
+    /// Several batches at once, then a sync if one of them requests it.
     WriteGroup(Vec<(Vec<Act>, bool)>),
     Sync,
     Get(u64, Vec<u8>),
@@ -39,48 +39,47 @@ pub enum Op {
     Last(u64),
     /// The groups that the engine knows.
     Groups,
-    /// What stands in the Append queue up to a watermark is written again, ending after a step.
+    /// The Append queue up to a watermark is written again; it ends after a step.
     RewriteAppend(Option<FileSeq>, Option<u64>),
-    /// All that stands in the Rewrite queue is written again.
+    /// The whole Rewrite queue is written again.
     RewriteRewrite,
-    /// Files in front in which nothing stands go.
+    /// Unreferenced files in front are dropped.
     PurgeStale,
     /// What the queues need is rewritten, and files go; nobody keeps any.
     Purge,
 }
 
-/// What an operation was answered: a write with the length of its record, and one whose numbers
-/// have acted with 0.
+/// The result of an operation: of a write the length of its record, and 0 if its numbers have
+/// acted.
 #[derive(Debug, PartialEq, Eq, Drop)]
 pub enum Outcome {
     Size(Result<usize, Fault>),
-    /// A group with the answer of each of its batches.
+    /// A group with the result of each of its batches.
     Sizes(Result<Vec<Result<usize, Fault>>, Fault>),
     Done(Result<(), Fault>),
     Value(Result<Option<Vec<u8>>, Fault>),
     /// How many entries went.
     Count(Result<u64, Fault>),
     Entry(Result<Option<TextEntry>, Fault>),
-    /// Of an engine that had failed it says nothing.
+    /// It says nothing of an engine that had failed.
     Index(Option<u64>),
     Groups(Result<Vec<u64>, Fault>),
     /// How many log files went.
     Dropped(Result<usize, Fault>),
-    /// The groups whose compaction is asked for.
+    /// The groups that should be compacted.
     ToCompact(Result<Vec<u64>, Fault>),
 }
 
 /// What a trial showed.
 #[derive(Debug, PartialEq, Eq, Drop)]
 pub struct Trial {
-    /// Empty where the first opening failed.
+    /// Empty if the first opening failed.
     pub outcomes: Vec<Outcome>,
     /// The place, counted from 0, of the operation in which the engine failed.
     pub failed_at: Option<usize>,
     /// Why the first opening failed, if it did.
     pub refused: Option<Fault>,
-    /// What an opening found that came between two crashes, and was given up; of one crash alone there
-    /// is none.
+    /// What an opening found that came between two crashes, and was given up; none after one crash.
     pub second: Option<Result<Image, Fault>>,
     /// What the opening after the last crash found.
     pub opened: Result<Image, Fault>,

@@ -39,32 +39,32 @@ pub(crate) struct RunReport {
     pub failed_at: Option<usize>,
 }
 
-/// Does the operations in order, each with its outcome. Where there is no memory for the list of
-/// outcomes, the engine is not asked.
+/// Does the operations in order, each with its outcome. If there is no memory for the list of
+/// outcomes, it does not call the engine.
 ///
 /// The headline is `crash` (docs/READING.md). At each moment of an operation the machine may crash,
-/// and again inside each opening of what is left. A tolerant opening that isn't cut off so finds a
-/// prefix of what was accepted before the operation, and perhaps of what it was writing, with all
-/// that an answered sync had covered; or it fails as `Io`, which storage counted, or for lack of
-/// memory. The damage of each crash has to be detectable; whatever it is, such contents are what is
-/// read first. Once the operation is answered and the engine stands, it and its files hold all that
-/// was accepted. A failed engine changes no file. That the premise can be met says
-/// `laws::the_damage_of_an_engine_is_detectable` of the engine.
+/// and again inside each opening of what is left. A tolerant opening that is not interrupted finds
+/// a prefix of what was accepted before the operation, and perhaps of what it was writing, with all
+/// that a successful sync had covered; or it fails with `Io`, which storage counted, or for lack of
+/// memory. The damage of each crash has to be detectable; whatever it is, such contents are read
+/// first. If the operation has returned and the engine has not failed, it and its files hold all
+/// that was accepted. A failed engine changes no file.
+/// `laws::the_damage_of_an_engine_is_detectable` of the engine says that the premise can be met.
 ///
 /// `once`: over runs, crashes and openings no number of a group acts twice until the group is
-/// cleaned, and each act that an answered sync covered is among those that are found. `ok` says of
-/// one list of engines, each of which the operation's own call makes of the one before, what is
-/// answered, when the engine fails and what is safe.
+/// cleaned, and each act that a successful sync covered is among those that are found. `ok` speaks
+/// of one list of engines, each of which the operation's own call makes of the one before. It says
+/// what is returned, when the engine fails and what is safe.
 ///
-/// What was accepted are acts (`numbers`), each with its numbers, of which each is greater than
-/// the one that its group kept: so none acts twice, as long as the group isn't cleaned.
+/// Accepted writes are acts (`numbers`), each with its numbers, which are greater than those that
+/// their groups kept: so none acts twice while the group is not cleaned.
 /// `laws::numbers_act_once_over_crashes` joins the acts of runs with crashes between them.
 ///
-/// After the operations the accepted batches that are covered count as durable, and no more, and
-/// the others stand unsynced. At least as many calls as answer `Io` were refused by storage. Where
-/// all operations are reads, but of entries, and writes of acts without a batch, the engine stays
-/// as it was. The settings' folders stay, and so does the engine's note of the files that its
-/// opening found; log files that the opening passed over stand as they did.
+/// After the operations exactly the covered batches count as durable, and the others are unsynced.
+/// Storage refused at least as many calls as return `Io`. If all operations are reads, except of
+/// entries, and writes of acts without a batch, the engine does not change. The settings' folders
+/// stay, and so does the engine's note of the files that its opening found; log files that the
+/// opening passed over are as they were.
 pub fn run<F: FileSystem>(
     alloc: Global,
     engine: &mut Engine<F>,

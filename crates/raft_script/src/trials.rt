@@ -27,19 +27,19 @@ use raft_records::Fault;
 use std::alloc::Global;
 
 /// Opens a log in memory, does the operations, crashes, and opens again. From the first opening on
-/// the calls that may change files are counted from 1, and the files are told to fail each from
-/// the one at `stop` on; the opening after the crash has no stop, and at each moment of it the
-/// folders keep what they kept. Where the first opening fails no operation is done, and the trial
-/// says why: settings contradict one another, a storage call failed, or memory was wanting. The
-/// choices say what the crash leaves; bytes that storage doesn't allow are refused. Where the
-/// damage of what the crash leaves is detectable, a tolerant opening fails by storage or for lack
-/// of memory alone; any other opening only for these, for what is left of the log, or where
-/// settings contradict one another. That no folder has the path of a log file (`HaveNoLogPath`) is
-/// asked where the first opening failed, and nowhere else. The damage is detectable where no
-/// engine failed, nothing decodes that a last log file held when it was renamed, and the choices
-/// leave each file whole, as it is at the crash or as it was synced; and so it is, whatever failed
-/// and for torn files too, where the last log files were never renamed, no call brought a record
-/// but its own, and they are read as they were at a moment since their last sync.
+/// the calls that may change files are counted from 1, and each from the one at `stop` on fails.
+/// The opening after the crash has no stop, and at each moment of it the folders keep what they
+/// kept. If the first opening fails no operation is done, and the trial says why: settings
+/// contradict one another, a storage call failed, or memory ran out. The choices say what the crash
+/// leaves; bytes that storage does not allow are refused. If the damage of what the crash leaves is
+/// detectable, a tolerant opening fails only by storage or for lack of memory; any other opening
+/// also for what is left of the log, or if settings contradict one another. Only a failed first
+/// opening requires that no folder has the path of a log file (`HaveNoLogPath`). The damage is
+/// detectable if no engine failed, nothing decodes that a last log file held when it was renamed,
+/// and the choices leave each file whole, as it is at the crash or as it was synced. It is
+/// detectable too, whatever failed and for torn files, if the last log files were never renamed, no
+/// call brought a record except its own, and they are read as they were at a moment since their
+/// last sync.
 pub fn trial(
     alloc: Global,
     config: Config,
@@ -65,10 +65,10 @@ pub fn trial(
     })
 }
 
-/// As `trial`, but the opening after the crash is given up: from the call at `again` on, counted from
-/// 1, each of its calls that may change files fails. Then the files crash by `more`, and the last
-/// opening, which has no stop, tells what they hold. Where the damage of both crashes is
-/// detectable, that is what the first crash left: recovery may be broken off anywhere and loses
+/// As `trial`, but the opening after the crash is given up: from the call at `again` on, counted
+/// from 1, each of its calls that may change files fails. Then the files crash by `more`, and the
+/// last opening, which has no stop, finds what they hold. If the damage of both crashes is
+/// detectable, that is what the first crash left: a recovery may be interrupted anywhere and loses
 /// nothing.
 pub fn trial_twice(
     alloc: Global,
@@ -132,8 +132,8 @@ fn crashed(
     Ok((ran, refused, left))
 }
 
-/// A folder alone hasn't the path of a log file or of a reserved one: of it all that is said of a
-/// trial is true.
+/// A single folder never has the path of a log file or of a reserved one: everything that is said
+/// of a trial holds for it.
 pub fn a_folder_alone_has_no_log_path()
     ensures one { (folders : Folders) → folders.spill ≡ None → HaveNoLogPath folders }
 {}

@@ -1,4 +1,4 @@
-//! Calls of a shared engine, and what they were answered.
+//! Calls of a shared engine, and their results.
 ghost use Rattle.std.specs.Prelude.{◌≡◌, IfOk, IfErr, option_map};
 ghost use Rattle.raft_shared.specs.Words.{answer_by, reason_of, shared_bytes, without_path};
 
@@ -6,7 +6,7 @@ use raft_log_engine::{Fault, LogBatch};
 use std::alloc::Global;
 use std::sync::Arc;
 
-/// A call, with copies of what it was given. Batches are boxed, so that other calls stay small.
+/// A call, with copies of its arguments. Batches are boxed, so that other calls stay small.
 #[derive(Drop)]
 pub enum Call {
     /// A batch, and whether it is synced.
@@ -21,7 +21,7 @@ pub enum Call {
     Last(u64),
 }
 
-/// What a call was answered. A fault of a file names no path.
+/// The result of a call. A fault of a file names no path.
 #[derive(Drop)]
 pub enum Reply {
     Size(Result<usize, Fault>),
@@ -36,7 +36,7 @@ pub type SharedCall = Arc<Call, Global>;
 /// .. and of a value that was found.
 pub type SharedBytes = Arc<Vec<u8>, Global>;
 
-/// A call as it stands in the history.
+/// A call of the history, with its result.
 #[derive(Drop)]
 pub struct Recorded {
     pub seat: usize,
@@ -44,7 +44,7 @@ pub struct Recorded {
     pub reply: Reply,
 }
 
-/// A call as its seat is told of it.
+/// A call as its seat records it.
 #[derive(Drop)]
 pub struct Receipt {
     /// Its place in the history, counted from 0.
@@ -53,11 +53,11 @@ pub struct Receipt {
     pub reply: Reply,
 }
 
-/// What a purge was answered.
+/// The result of a purge.
 #[derive(Drop)]
 pub struct Purged {
     pub receipt: Receipt,
-    /// The groups whose compaction is asked for, which the history doesn't have. None after a refusal.
+    /// The groups that should be compacted, which the history does not have. None after a failure.
     pub asked: Vec<u64>,
 }
 

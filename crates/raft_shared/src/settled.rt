@@ -9,7 +9,7 @@ use crate::call::{Call, Receipt, Recorded, Reply, SharedBytes};
 use crate::seat::Seat;
 use raft_log_engine::Fault;
 
-/// Whether each seat has the receipts of its calls, in order, and each call is of just one seat.
+/// Whether each seat has the receipts of its calls, in order, and each call is of exactly one seat.
 pub fn are_settled(seats: &[Seat], trail: &[Recorded]) -> bool
     ensures value { IsTrue result ↔ AreSettled seats.now (map event_of trail.now) }
 {

@@ -1,4 +1,4 @@
-//! Which keys stand between two bounds. None is no bound.
+//! Which keys are between two bounds. None is no bound.
 ghost use Rattle.std.specs.Prelude.{◌≡◌};
 ghost use Rattle.std.specs.Option.{option_copied};
 ghost use Rattle.raft_tables.specs.Listing.{is_before, is_between, is_from};

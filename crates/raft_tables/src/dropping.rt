@@ -1,4 +1,4 @@
-//! How the memory of tables is given back.
+//! How the memory of tables is freed.
 
 use crate::memtable::MemTable;
 use std::alloc::Global;
@@ -7,8 +7,9 @@ use std::collections::{HashMap, VecDeque};
 /// How many rows of a table go before those of the next one.
 const ROWS: usize = 16;
 
-/// Drops a few rows of each table in turn. Groups that were written in turn have their rows beside
-/// each other in memory, and a table at a time would touch all of that memory once for each table.
+/// Drops a few rows of each table in turn. Groups that were written in turn have their rows side by
+/// side in memory, and one table after the other would touch all of that memory once for each
+/// table.
 pub(crate) fn drop_in_turn(alloc: Global, tables: HashMap<u64, MemTable>) {
     let mut all = VecDeque::new(alloc);
     let mut turns: usize = 0;

@@ -1,17 +1,17 @@
 //! Numbers of atomic groups.
 ghost use Rattle.std.specs.Prelude.{◌≡◌, ◌+◌, ◌^◌, IfSome, None, max, nat_le};
 
-/// Gives numbers for atomic groups, each greater than every one that was met or given before.
+/// Gives numbers for atomic groups, each greater than every one that occurred or was given before.
 #[derive(Clone, Copy, Debug)]
 pub struct GroupIds {
-    /// The next number. There is none once the greatest was met or given.
+    /// The next number. There is none after the greatest has occurred or was given.
     next: Option<u64>,
 }
 
 impl GroupIds {
     ghost use Rattle.raft_tables.specs.GroupIds.{ids_bound};
 
-    /// No number was met.
+    /// No number has occurred.
     pub fn new() -> GroupIds
         ensures value { ids_bound result ≡ 0 }
     {
@@ -27,7 +27,7 @@ impl GroupIds {
         }
     }
 
-    /// Whether a number is above every one that was met or given.
+    /// Whether a number is above every one that occurred or was given.
     pub(crate) fn is_new(&self, id: u64) -> bool
         ensures value { result ≡ nat_le (ids_bound self.now) id }
     {
@@ -37,7 +37,7 @@ impl GroupIds {
         }
     }
 
-    /// A number above every one that was met or given, or none where the greatest was.
+    /// A number above every one that occurred or was given; none after the greatest.
     pub fn give(&mut self) -> Option<u64>
         ensures some { IfSome result
             (λ id. (id ≡ ids_bound self.old) × (ids_bound self.new ≡ id + 1)) }

@@ -9,7 +9,7 @@ use std::hash::{BuildHasher, Hasher};
 #[derive(Clone, Copy)]
 pub struct KeyHash;
 
-/// A hash of bytes, one step a byte. Who picks the keys can make them collide.
+/// A hash of bytes, one step a byte. A caller that picks the keys can make them collide.
 #[derive(Clone, Copy)]
 pub struct KeyHasher(u64);
 

@@ -1,4 +1,4 @@
-//! The in-memory index: what each group holds, and the files that it stands in.
+//! The index in memory: what each group holds, and in which files.
 #![tactic(auto)]
 
 mod bounds;

@@ -18,7 +18,7 @@ pub(crate) struct Pair {
     group: u64,
     older: MemTable,
     newer: MemTable,
-    /// How many entries and values left the Rewrite queue where the older was put below.
+    /// How many entries and values left the Rewrite queue when the older was put below.
     left: Result<u64, AllocError>,
 }
 
@@ -43,8 +43,8 @@ pub(crate) fn join_all<R: Threads + Sync>(rt: &R, alloc: Global, threads: usize,
 }
 
 impl MemTables {
-    /// Takes the tables of groups that older tables have too, in pairs. Other older tables are moved
-    /// here as they are.
+    /// Takes the tables of groups that older tables have too, in pairs. Other older tables are
+    /// moved here as they are.
     pub(crate) fn pair_up(&mut self, older: MemTables) -> Result<Vec<Pair>, AllocError>
         ensures ok { IfOk result (λ pairs. ArePaired (tables_of older) (tables_of self.old)
             pairs.items (tables_of self.new)) }
@@ -79,8 +79,8 @@ impl MemTables {
         }
     }
 
-    /// Puts the newer tables of joined pairs in their places: how many entries and values left the
-    /// Rewrite queue, up to the greatest `u64`. It fails where one couldn't be joined.
+    /// Puts the newer tables of joined pairs in their places. Returns how many entries and values
+    /// left the Rewrite queue, up to the greatest `u64`. It fails if one could not be joined.
     pub(crate) fn put_pairs(&mut self, mut pairs: Vec<Pair>) -> Result<u64, AllocError>
         ensures { IfOk result (ArePut pairs.items self.old self.new) }
     {

@@ -59,7 +59,7 @@ impl Plain<Recorded, Recorded, u64> for Add {
     ghost state = { λ call. None };
 }
 
-/// Which book it is, and where the engine comes from whose calls it has. Each call of a program
+/// The identity of a book, and the origin of the engine whose calls it has. Each call of a program
 /// picks it.
 pub trait Naming {
     ghost use Rattle.std.specs.Prelude.{Option};
@@ -186,8 +186,7 @@ impl<J: Naming> Front<J> {
         }
     }
 
-    /// Adds a call to all that was seen. None where the history is longer, and has other calls
-    /// there.
+    /// Adds a call to all that was seen. None if the history is longer, and has other calls there.
     pub(crate) fn with(&self, book: &Book<J>, call: &Recorded) -> Option<Front<J>>
         ensures value { IfSome result (λ front. front ≡ self.now ++ event_of call.now ∷ []) }
     {

@@ -28,7 +28,7 @@ pub struct Desk<F: FileSystem, J: Naming> {
     ghost origin: { J.origin ≡ Some (origin_of shared) } by { Prim.hlevel props },
 }
 
-/// A call's receipt, and the history that ends with the call. None where the book has other calls
+/// A call's receipt, and the history that ends with the call. None if the book has other calls
 /// there.
 #[derive(Drop)]
 pub struct Noted<J: Naming> {
@@ -134,9 +134,9 @@ impl<F: FileSystem, J: Naming> Desk<F, J> {
         Ok(note(&mut self.front, book, number, receipt))
     }
 
-    /// Whether a front that somebody saw begins this engine's history, so far as it is known: so it is
-    /// of each front that isn't longer than the desk's own. `false` says nothing else; it comes only
-    /// where the book has calls of another engine.
+    /// Whether a front that somebody saw begins this engine's history, to the length that is known.
+    /// That holds for each front that is no longer than the desk's own. `false` says nothing else;
+    /// it comes only if the book has calls of another engine.
     pub fn has(&self, front: &Front<J>) -> bool
         ensures value { result ≡ true → IsPrefix front.now (history_of self.now.shared) }
         ensures settled { (result ≡ true) ↔ (length front.now ≤ length self.now.front) }
@@ -149,9 +149,9 @@ impl<F: FileSystem, J: Naming> Desk<F, J> {
         true
     }
 
-    /// Whether a witness is of this engine's history, so far as `has` knows it, and of a sync that is
-    /// no later than the last one, or the last purge, that was answered. Then a crash from now on leaves what the first
-    /// calls of the history left, the witness's batch among them, and possibly more.
+    /// Whether a witness is of this engine's history, to the length that `has` knows, and of a sync
+    /// that is no later than the last successful sync or purge. Then a crash from now on leaves
+    /// what the first calls of the history left, the witness's batch among them, and possibly more.
     pub fn finds(&self, durable: &Durable<J>) -> bool
         ensures value { result ≡ true
             → IsFound durable.now.number durable.now.front self.now.shared }

@@ -1,10 +1,10 @@
-//! Who writes, who leads, and the last answered sync.
+//! The writing threads, the leading one, and the last successful sync.
 ghost use Rattle.std.specs.Prelude.{◌≡◌, IfOk, IfErr};
 
 use crate::book::Naming;
 use crate::ticket::{Covered, Durable, Ticket};
 
-/// What threads tell one another of their rounds.
+/// What threads share about their rounds.
 #[derive(Drop)]
 pub(crate) struct Gate<J: Naming> {
     // How many writes were announced, and how many of these are done.
@@ -35,7 +35,7 @@ impl<J: Naming> Gate<J> {
         self.written = self.written.wrapping_add(1);
     }
 
-    /// How many writes a leader waits for: those that were announced, up to so many.
+    /// How many writes a leader waits for: the announced ones, up to a bound.
     pub(crate) fn awaited(&self, bound: u64) -> u64 {
         let missing = self.announced.wrapping_sub(self.written);
         self.written.wrapping_add(missing.min(bound))
@@ -49,8 +49,8 @@ impl<J: Naming> Gate<J> {
         self.leading = leading;
     }
 
-    /// Whether the ticket at this place has to wait: another one leads, and no sync after it was
-    /// answered.
+    /// Whether the ticket at this place has to wait: another one leads, and no sync after it has
+    /// succeeded.
     pub(crate) fn holds_back(&self, number: usize) -> bool {
         self.leading && !self.covers(number)
     }
@@ -68,7 +68,7 @@ impl<J: Naming> Gate<J> {
         }
     }
 
-    /// The ticket's answer, where a sync after it was answered.
+    /// The ticket's result, if a sync after it has succeeded.
     pub(crate) fn answer(&self, ticket: Ticket<J>) -> Result<Durable<J>, Ticket<J>>
         ensures ok { IfOk result (Answers ticket) }
         ensures err { IfErr result (λ back. back ≡ ticket) }

@@ -1,5 +1,5 @@
 //! One sync for many threads: each writes its batches by itself, and those that wait for the disk
-//! share its answer.
+//! share its result.
 #![tactic(auto)]
 
 mod book;

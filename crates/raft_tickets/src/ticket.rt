@@ -1,4 +1,4 @@
-//! Tickets of batches that wait for a sync, and what answers them.
+//! Tickets of batches that wait for a sync, and their results.
 ghost use Rattle.std.specs.Prelude.{◌≡◌, ◌⊎◌, ◌↔◌, ◌<◌, ℕ, true, slice_get, Err, Ok, IfOk, IfErr, IsOk};
 ghost use mathlib.Core.List.{IsPrefix};
 ghost use Rattle.raft_shared.specs.History.{Done, Size};
@@ -10,7 +10,7 @@ use raft_log_engine::Fault;
 use raft_shared::{Receipt, Reply};
 
 /// An accepted batch that waits for a sync: its place in the history, and the length of its record.
-/// Its answer uses it up.
+/// Its result uses it up.
 #[derive(Drop)]
 pub struct Ticket<J: Naming> {
     front: Front<J>,
@@ -19,7 +19,7 @@ pub struct Ticket<J: Naming> {
     ghost written: { is_write_at number front ≡ true },
 }
 
-/// An answered sync, by its place in the history.
+/// A successful sync, by its place in the history.
 #[derive(Drop)]
 pub(crate) struct Covered<J: Naming> {
     front: Front<J>,
@@ -27,7 +27,7 @@ pub(crate) struct Covered<J: Naming> {
     ghost synced: { is_sync_at number front ≡ true },
 }
 
-/// A witness that an accepted batch stands in the history before an answered sync.
+/// A witness that an accepted batch comes before a successful sync in the history.
 #[derive(Drop)]
 pub struct Durable<J: Naming> {
     front: Front<J>,
@@ -79,7 +79,7 @@ impl<J: Naming> Ticket<J> {
         self.size
     }
 
-    /// Its answer by a sync that comes after its write. Else the ticket again.
+    /// Its result by a sync that comes after its write; otherwise the ticket again.
     #[tactic(auto, using(crate::proofs::Witnesses::is_write_still, crate::proofs::Witnesses::is_sync_still, crate::proofs::Witnesses::write_stays))]
     pub(crate) fn covered_by(self, covered: &Covered<J>) -> Result<Durable<J>, Ticket<J>>
         ensures ok { IfOk result (Answers self) }
@@ -147,7 +147,7 @@ impl<J: Naming> Durable<J> {
         self.number
     }
 
-    /// The place of an answered sync after it.
+    /// The place of a successful sync after it.
     pub fn sync(&self) -> usize
         ensures value { result ≡ self.now.sync }
         ensures before { self.now.number < result }

@@ -30,8 +30,8 @@ impl<F: FileSystem, J: Naming> Tickets<F, J> {
     ghost use Rattle.raft_shared.specs.Shared.{receipts_of};
     ghost use Rattle.raft_tickets.specs.Answer.{Answers};
 
-    /// Of an engine that was just shared. Whoever leads waits for at most `bound` writes that are
-    /// under way before it syncs.
+    /// Tickets for an engine that was newly shared. The leading thread waits for at most `bound`
+    /// writes that have begun before it syncs.
     pub fn new(opened: Opened, shared: Shared<F>, bound: u64) -> Tickets<F, J>
         requires book { opened.seen.book ≡ J.book }
         requires origin { J.origin ≡ Some (origin_of shared) }
@@ -55,10 +55,11 @@ impl<F: FileSystem, J: Naming> Tickets<F, J> {
         self.desk.lock(rt).seat()
     }
 
-    /// Writes a batch without a sync: a ticket for one, where the engine accepted it, which leaves
-    /// the batch empty. Else it fails as the engine answered, and as `TrailFull` and `Memory` where
-    /// it wasn't asked. `Layer` is for a book that has calls of another engine. A refused batch is as
-    /// it was, unless the engine answered `Io` or `Memory`, since it may have failed then.
+    /// Writes a batch without a sync: a ticket for it if the engine accepted it, which leaves the
+    /// batch empty. Otherwise it fails as the engine did, or with `TrailFull` or `Memory` if the
+    /// engine wasn't called. `Layer` is for a book that has calls of another engine. A refused
+    /// batch is as it was, unless the engine returned `Io` or `Memory`, since it may have failed
+    /// then.
     #[tactic(auto, using(crate::proofs::Noting::leaves_empty, crate::proofs::Noting::is_heard, crate::proofs::Noting::is_told_at, crate::proofs::Noting::is_told, crate::proofs::Telling::keeps_refused, crate::proofs::Telling::keeps_same))]
     pub fn write<R: Wait>(
         &self,
@@ -89,9 +90,9 @@ impl<F: FileSystem, J: Naming> Tickets<F, J> {
         }
     }
 
-    /// Waits until a sync after the ticket's write was answered, by this thread or another one: a
-    /// witness for the same batch. Where this thread asked for it, it fails as the engine answered,
-    /// and as `write` does.
+    /// Waits until a sync after the ticket's write has returned, in this thread or another one: a
+    /// witness for the same batch. If this thread made the sync, it fails as the engine did, and as
+    /// `write` does.
     pub fn wait<R: Wait>(
         &self,
         rt: &R,
@@ -169,8 +170,8 @@ impl<F: FileSystem, J: Naming> Tickets<F, J> {
         self.answered.notify_all();
     }
 
-    /// `write`, and then `wait`. Where the wait fails the batch is accepted all the same, as the seat
-    /// was told, and empty.
+    /// `write`, and then `wait`. If the wait fails, the batch is accepted all the same, as the seat
+    /// records, and empty.
     pub fn write_synced<R: Wait>(
         &self,
         rt: &R,
@@ -193,7 +194,8 @@ impl<F: FileSystem, J: Naming> Tickets<F, J> {
         self.wait(rt, seat, ticket)
     }
 
-    /// `Shared::get`, for any thread, with the history up to it, unless the book has other calls there.
+    /// `Shared::get`, for any thread, with the history up to it, unless the book has other calls
+    /// there.
     #[tactic(auto, using(crate::proofs::Noting::is_told_at))]
     pub fn get<R: Wait>(
         &self,
@@ -234,9 +236,9 @@ impl<F: FileSystem, J: Naming> Tickets<F, J> {
             .purge_expired_files(&self.book, seat, barrier)
     }
 
-    /// The engine and its history, when no thread needs them any more. It comes from where the one came
-    /// from that was handed in: it has its settings and what its opening found, and its history begins
-    /// with what that held.
+    /// The engine and its history, when no thread needs them any more. The engine comes from the
+    /// one that was passed in: it has its settings and what its opening found, and its history
+    /// begins with what that engine held.
     pub fn into_desk(self) -> Desk<F, J>
         ensures origin { J.origin ≡ Some (origin_of result.shared) }
     {

@@ -5,6 +5,7 @@
 //	DELETE /keys/KEY           drops it
 //	POST   /sessions?group=N   begins a session in a group
 //	GET    /status             tells how the node stands, as JSON
+//	GET    /metrics            tells what the node and its log count, for Prometheus
 //
 // A write with the headers Kv-Session and Kv-Number acts once, however often it is sent.
 package server
@@ -39,9 +40,10 @@ const (
 	FoundHeader   = "Kv-Found"
 )
 
-// A Server answers by a node of so many groups, within a time.
+// A Server answers by a node of so many groups, within a time. Log is nil for a store that isn't a raftlog.
 type Server struct {
 	Node    *node.Node
+	Log     Log
 	Groups  uint64
 	Timeout time.Duration
 }
@@ -101,13 +103,16 @@ func (s *Server) serve(ctx context.Context, w http.ResponseWriter, r *http.Reque
 			return refuse(http.StatusMethodNotAllowed, "/sessions takes POST")
 		}
 		return s.begin(ctx, w, r)
-	case path == "/status":
+	case path == "/status" || path == "/metrics":
 		if r.Method != http.MethodGet {
-			return refuse(http.StatusMethodNotAllowed, "/status takes GET")
+			return refuse(http.StatusMethodNotAllowed, "%s takes GET", path)
+		}
+		if path == "/metrics" {
+			return s.tellMetrics(ctx, w)
 		}
 		return s.tellStatus(ctx, w)
 	}
-	return refuse(http.StatusNotFound, "there are /keys/KEY, /sessions and /status")
+	return refuse(http.StatusNotFound, "there are /keys/KEY, /sessions, /status and /metrics")
 }
 
 func keyOf(escaped string) (string, error) {

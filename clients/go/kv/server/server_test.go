@@ -37,7 +37,8 @@ func start(t *testing.T) *httptest.Server {
 	ctx, cancel := context.WithCancel(context.Background())
 	ended := make(chan error)
 	go func() { ended <- n.Run(ctx) }()
-	users := httptest.NewServer(&Server{Node: n, Groups: groups, Timeout: 2 * time.Minute})
+	log, _ := store.(Log)
+	users := httptest.NewServer(&Server{Node: n, Log: log, Groups: groups, Timeout: 2 * time.Minute})
 	t.Cleanup(func() {
 		users.Close()
 		cancel()

@@ -1,4 +1,5 @@
-// Writes the state and two entries of a group to the log in a folder, and reads them: `go run raftlog/example FOLDER`.
+// The storage of a Raft node over one log: `go run raftlog/example FOLDER`. It saves two entries and the node's state, reads the
+// entries, drops those that a snapshot has, and purges.
 package main
 
 import (
@@ -9,30 +10,60 @@ import (
 	"raftlog"
 )
 
+// A node applies the entry to its state here.
+func apply(group uint64, entry raftlog.Entry) {
+	fmt.Printf("group %d, entry %d: %s\n", group, entry.Index, entry.Data)
+}
+
+// A node saves the group's state in a file of its own here, syncs it, and returns the last index in it. This example has no
+// state: it keeps all entries.
+func makeSnapshot(group uint64) uint64 { return 0 }
+
+func turn(engine *raftlog.Engine, group, last uint64) error {
+	entries := []raftlog.Entry{{Index: last + 1, Data: []byte("one")}, {Index: last + 2, Data: []byte("two")}}
+	applied, committed, snapshot := last, last+2, last
+	var batch raftlog.Batch
+	batch.AddEntries(group, entries)                      // append, or replace a tail
+	batch.Put(group, []byte("state"), []byte("follower")) // the term and the vote
+	if err := engine.Write(&batch, true); err != nil {    // durable: now answer the leader
+		return err
+	}
+
+	ready, err := engine.FetchEntries(group, applied+1, committed+1, 1<<20)
+	if err != nil {
+		return err
+	}
+	for _, entry := range ready {
+		apply(group, entry)
+	}
+
+	if _, err := engine.CompactTo(group, snapshot+1); err != nil { // drop what the snapshot has
+		return err
+	}
+
+	old, err := engine.PurgeExpiredFiles() // now and then: free log files
+	if err != nil {
+		return err
+	}
+	for _, group := range old { // groups that keep old files
+		if _, err := engine.CompactTo(group, makeSnapshot(group)+1); err != nil {
+			return err
+		}
+	}
+	return nil
+}
+
 func run(folder string) error {
 	engine, err := raftlog.Open(folder, "")
 	if err != nil {
 		return err
 	}
-	defer engine.Close()
 	_, last, _, err := engine.Span(1)
-	if err != nil {
-		return err
+	if err == nil {
+		err = turn(engine, 1, last)
 	}
-	var batch raftlog.Batch
-	batch.Put(1, []byte("state"), []byte("follower"))
-	batch.AddEntries(1, []raftlog.Entry{{Index: last + 1, Data: []byte("one")}, {Index: last + 2, Data: []byte("two")}})
-	if err := engine.Write(&batch, true); err != nil {
-		return err
-	}
-	state, _, err := engine.Get(1, []byte("state"))
-	if err != nil {
-		return err
-	}
-	fmt.Printf("state: %s\n", state)
-	entries, err := engine.FetchEntries(1, last+1, last+3, 0)
-	for _, entry := range entries {
-		fmt.Printf("%d: %s\n", entry.Index, entry.Data)
+	if closed := engine.Close(); err == nil {
+		err = closed
 	}
 	return err
 }

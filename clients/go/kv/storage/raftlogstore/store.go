@@ -74,4 +74,7 @@ func (s *store) Compact(c storage.Compaction) error {
 
 func (s *store) Purge() ([]uint64, error) { return s.log.PurgeExpiredFiles() }
 
+// Stats tells what the log did.
+func (s *store) Stats() (raftlog.Stats, error) { return s.log.Stats() }
+
 func (s *store) Close() error { return s.log.Close() }

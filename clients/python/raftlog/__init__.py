@@ -1,13 +1,40 @@
-"""A log for many Raft groups in a folder, over libraftlog.so (RAFTLOG_SO, else clients/c/build/libraftlog.so)."""
+"""A log for many Raft groups in a folder, over the shared library libraftlog: that of the path RAFTLOG_SO, else the one that
+this package carries, that `make -C clients/c` builds in a checkout, that pkg-config knows, or that the system finds."""
 import ctypes
 import os
 import struct
+import subprocess
 from ctypes import POINTER, byref, c_bool, c_char_p, c_int, c_size_t, c_uint64, c_uint8, c_void_p
 
 _HERE = os.path.dirname(os.path.abspath(__file__))
-_C = ctypes.CDLL(os.environ.get("RAFTLOG_SO", os.path.join(_HERE, "../c/build/libraftlog.so")))
+_NAME = "libraftlog.so.0"
+
+
+def _installed():
+    """The folder of the library that pkg-config knows, or None."""
+    try:
+        asked = subprocess.run(["pkg-config", "--variable=libdir", "raftlog"], capture_output=True, text=True)
+    except OSError:
+        return None
+    return asked.stdout.strip() if asked.returncode == 0 else None
+
+
+def _load():
+    if "RAFTLOG_SO" in os.environ:
+        return ctypes.CDLL(os.environ["RAFTLOG_SO"])
+    for folder in (_HERE, os.path.join(_HERE, "../../c/build"), _installed()):
+        if folder and os.path.exists(os.path.join(folder, _NAME)):
+            return ctypes.CDLL(os.path.join(folder, _NAME))
+    try:
+        return ctypes.CDLL(_NAME)
+    except OSError as error:
+        raise ImportError("%s isn't found: set RAFTLOG_SO to its path, or install it (make -C clients/c install): %s"
+                          % (_NAME, error)) from None
+
+
+_C = _load()
 INVALID, IO, TRY_AGAIN, GAP, COMPACTED, NO_ENTRY, FAILED, ABSENT, IN_USE, FOLDER = 1, 3, 4, 5, 7, 8, 11, 20, 30, 32
-CORRUPTION, STALE_NUMBER = 2, 18
+CORRUPTION, NO_MEMORY, STALE_NUMBER, NOT_PLAIN = 2, 12, 18, 31
 _Watch = ctypes.CFUNCTYPE(None, c_void_p, c_uint64, c_uint64)
 
 
@@ -18,13 +45,28 @@ class _Slice(ctypes.Structure):
 class Stats(ctypes.Structure):
     """What a log did since it was opened, in rounds that are over: how many rounds and changes (writes, syncs, compactions,
     purges) there were, how many of these asked for a sync and were done, the most changes of a round, the syncs of log
-    files (whoever asked for them), the bytes written to them, the nanoseconds that these syncs took, and how many of the
-    changes were writes that were done."""
+    files (whoever asked for them), the bytes written to them, the nanoseconds that these syncs took, how many of the
+    changes were writes that were done, and in how many calls of the system these bytes were written.
+
+    sync_times has the syncs by classes of their times: class i has those under 2**i microseconds, and not under the bound
+    of the one before; the last one has no bound. next_files are those that a queue went on to, and recycled_files those of
+    them that were dropped or reserved files before. purges counts calls, a short one too, and files those that the folder
+    has now, reserved ones too (0 in memory)."""
     _fields_ = [(name, c_uint64) for name in
-                ("rounds", "changes", "synced_changes", "largest_round", "syncs", "bytes", "sync_ns", "batches")]
+                ("rounds", "changes", "synced_changes", "largest_round", "syncs", "bytes", "sync_ns", "batches", "writes",
+                 "longest_sync_ns")]
+    _fields_ += [("sync_times", c_uint64 * 24)]
+    _fields_ += [(name, c_uint64) for name in
+                 ("next_files", "recycled_files", "deleted_files", "purges", "purge_ns", "longest_purge_ns", "files")]
+
+    def as_dict(self):
+        """The numbers by their names."""
+        values = {name: getattr(self, name) for name, _ in self._fields_}
+        values["sync_times"] = list(self.sync_times)
+        return values
 
     def __repr__(self):
-        return "Stats(%s)" % ", ".join("%s=%d" % (name, getattr(self, name)) for name, _ in self._fields_)
+        return "Stats(%s)" % ", ".join("%s=%s" % item for item in self.as_dict().items())
 
 
 class _Cut(ctypes.Structure):
@@ -46,7 +88,7 @@ for _name, _result, _arguments in [
     ("open_watched", c_int, [c_char_p, c_char_p, _Watch, c_void_p, POINTER(c_void_p), c_char_p, c_size_t]),
     ("open_memory", c_int, [c_char_p, POINTER(c_void_p), c_char_p, c_size_t]),
     ("close", c_int, [c_void_p]),
-    ("stats", c_int, [c_void_p, POINTER(Stats)]),
+    ("stats", c_int, [c_void_p, POINTER(Stats), c_size_t]),
     ("cuts", c_size_t, [c_void_p, POINTER(_Cut), c_size_t]),
     ("message", c_size_t, [c_void_p, c_char_p, c_size_t]),
     ("code_text", c_char_p, [c_int]),
@@ -76,9 +118,14 @@ for _name, _result, _arguments in [
 
 
 class Error(Exception):
+    """A call failed, for the reason `code`. It can be pickled, so it passes from a worker process to its pool."""
+
     def __init__(self, code, text):
         super().__init__(text or _C.raftlog_code_text(code).decode())
         self.code = code
+
+    def __reduce__(self):
+        return Error, (self.code, str(self))
 
 
 def survive_bus_errors():
@@ -202,7 +249,7 @@ class Engine:
 
     def stats(self):
         stats = Stats()
-        self._call("stats", byref(stats))
+        self._call("stats", byref(stats), ctypes.sizeof(stats))
         return stats
 
     def cuts(self):

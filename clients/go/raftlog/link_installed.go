@@ -1,0 +1,6 @@
+//go:build raftlog_installed
+
+package raftlog
+
+// #cgo pkg-config: raftlog
+import "C"
