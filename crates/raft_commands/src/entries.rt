@@ -46,6 +46,9 @@ fn append_run<F: FileSystem>(
     out: &mut Output,
 ) -> Result<()> {
     let group = run.group;
+    if run.values.is_empty() {
+        return Err(anyhow!("there is no value to append"));
+    }
     let first = run.first.unwrap_or(behind(engine.last_index(group), 1));
     if let Err(fault) = append_from(alloc, engine, group, first, &run.values, sync) {
         return Err(failure("the entries cannot be appended", &fault));

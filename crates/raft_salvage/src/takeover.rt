@@ -7,7 +7,7 @@ use crate::writing::Writing;
 use anyhow::{Result, bail};
 use raft_command_line::{Import, Request};
 use raft_commands::change_by;
-use raft_console::{Output, Status};
+use raft_console::{Output, Status, tell};
 use raft_inspect::{Filter, ItemKind};
 use std::thread::Threads;
 
@@ -77,9 +77,10 @@ fn judge(
     if report.loses_ends_alone() || request.options.changing.cut {
         return Ok(Some(Status::WouldCut));
     }
-    eprintln!(rt;
-        "raftctl: {folder}: more than the end of a queue cannot be read, and nothing was done: \
-        `raftctl {folder} salvage FOLDER` tells what comes back, `--cut` imports it"
+    let text = format!(in rt.alloc();
+        "{folder}: more than the end of a queue cannot be read, and nothing was done: \
+        `raftctl {folder} salvage TARGET` tells what comes back, `--cut` imports it"
     )?;
+    tell(&rt, request.options.json, "error", text.as_str())?;
     Ok(None)
 }

@@ -5,7 +5,7 @@ use anyhow::{Result, bail};
 use clap::Error;
 use raft_command_line::{Look, Request, Verb, completion_script, parse};
 use raft_commands::{change, look};
-use raft_console::{Status, print_bytes, take_closed_streams};
+use raft_console::{Status, print_bytes, take_closed_streams, tell};
 use raft_contents::{import_lines, sum, truncate};
 use raft_offline::{fork_folder, print_settings, settings_of};
 use raft_salvage::{import_folder, salvage};
@@ -15,12 +15,13 @@ use std::thread::Threads;
 
 fn main(rt: HostRuntime) -> ExitCode {
     if let Err(error) = take_closed_streams(&rt) {
-        return failed(&rt, &error);
+        return failed(&rt, false, &error);
     }
     let words = match words(&rt) {
         Ok(words) => words,
-        Err(error) => return failed(&rt, &error),
+        Err(error) => return failed(&rt, false, &error),
     };
+    let json = words.iter().any(|word| word.as_str() == "--json");
     if let [_, option] = words.as_slice() {
         if option.as_str() == "--completion" {
             return completed(&rt);
@@ -29,7 +30,7 @@ fn main(rt: HostRuntime) -> ExitCode {
     match parse(rt.alloc(), words.as_slice()) {
         Ok(request) => match run(rt, &rt, request) {
             Ok(status) => ExitCode::from(status.code()),
-            Err(error) => failed(&rt, &error),
+            Err(error) => failed(&rt, json, &error),
         },
         Err(error) => misused(&rt, &error),
     }
@@ -50,7 +51,7 @@ fn words(rt: &HostRuntime) -> Result<Vec<String>> {
 fn completed(rt: &HostRuntime) -> ExitCode {
     match print_completion(rt) {
         Ok(()) => ExitCode::SUCCESS,
-        Err(error) => failed(rt, &error),
+        Err(error) => failed(rt, false, &error),
     }
 }
 
@@ -59,8 +60,11 @@ fn print_completion(rt: &HostRuntime) -> Result<()> {
     print_bytes(rt, script.as_bytes())
 }
 
-fn failed(rt: &HostRuntime, error: &anyhow::Error) -> ExitCode {
-    let _ = eprintln!(rt; "raftctl: {error:#}");
+fn failed(rt: &HostRuntime, json: bool, error: &anyhow::Error) -> ExitCode {
+    let _ = match format!(in rt.alloc(); "{error:#}") {
+        Ok(text) => tell(rt, json, "error", text.as_str()),
+        Err(_) => Err(anyhow::anyhow!("out of memory")),
+    };
     ExitCode::FAILURE
 }
 
