@@ -15,7 +15,7 @@ use std::alloc::{AllocError, Global};
 
 /// The project's, that of the crate whose files it reads and writes, and room for a commit, which `tools/stamp` writes
 /// into a copy of the program.
-const VERSION: &str = "0.1.0 (the files of raft-engine 0.4.2), \
+const VERSION: &str = "0.2.0 (the files of raft-engine 0.4.2), \
     commit unknown                                 ";
 
 /// What a line's kind may be, as `dump` prints it.
