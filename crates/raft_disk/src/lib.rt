@@ -1,4 +1,4 @@
-//! Files in a folder of the operating system, with an image of them in memory that answers.
+//! Files in a folder of the operating system, with an image of them in memory for reads.
 #![tactic(auto)]
 
 mod disk;
@@ -9,6 +9,7 @@ mod mirror;
 mod names;
 mod opening;
 mod places;
+mod root;
 mod told;
 mod view;
 

@@ -7,14 +7,14 @@ ghost use Rattle.raft_disk.specs.Names.{is_log_end, is_log_name};
 /// The name of the file whose lock says that a folder is open.
 pub(crate) const LOCK: &str = "LOCK";
 
-/// The name of the file that stands in a folder while a fork into it hasn't ended, as `raft_fork` has it.
+/// The name of the file in a folder while a fork into it has not ended, as `raft_fork` has it.
 pub(crate) const FORK_MARK: &str = "FORKING";
 
 /// How many digits a log file's name begins with.
 const NUMBER_LEN: usize = 16;
 
-/// Whether a file of a log can have this name: a number of sixteen digits, and then `.raftlog`, `.rewrite`, or
-/// `.raftlog.reserved` where it waits to be used again.
+/// Whether a file of a log can have this name: a number of sixteen digits, and then `.raftlog`,
+/// `.rewrite`, or `.raftlog.reserved` if it waits to be used again.
 pub fn is_log_name(name: &str) -> bool
     ensures value { result ≡ is_log_name name.now }
 {

@@ -6,7 +6,7 @@ ghost use Rattle.raft_memory.specs.Settled.{settled_files};
 
 use crate::names::{LOCK, is_log_name};
 use crate::opening::{OpenFault, check_lock, check_mark, check_place};
-use crate::places::join;
+use crate::root::Root;
 use raft_memory::MemoryFileSystem;
 use std::alloc::Global;
 use std::fs::{self, DirEntry, File, TryLockError};
@@ -17,67 +17,73 @@ use std::io::{self, ErrorKind, Read, Seek, SeekFrom};
 #[derive(Drop)]
 pub struct FolderView {
     rt: HostRuntime,
-    path: String,
-    /// The lock's file, whose lock is shared with others that look; none where it is missing.
+    root: Root,
+    /// The lock's file, whose lock is shared with other looks; none if it is missing.
     lock: Option<File>,
     in_use: bool,
 }
 
 impl FolderView {
-    /// A look at a folder. It fails where there is none, and where a fork into it hasn't ended.
+    /// A look at a folder. It fails if the folder does not exist, and if a fork into it has not
+    /// ended.
     pub fn open(rt: HostRuntime, path: &str) -> Result<FolderView, OpenFault> {
         let alloc = rt.alloc();
         check_place(&rt, path)?;
-        if let Err(e) = fs::metadata(&rt, path) {
-            return Err(OpenFault::at(alloc, path, e));
-        }
-        check_mark(&rt, path)?;
-        check_lock(&rt, path)?;
-        let place = String::from_str(alloc, path)?;
-        let lock = match open_lock(&rt, path) {
-            Ok(lock) => lock,
-            Err(e) => return Err(OpenFault::Lock(place, e)),
+        let root = match Root::open(&rt, path) {
+            Ok(root) => root,
+            Err(e) => return Err(OpenFault::at(alloc, path, e)),
         };
-        let in_use = match &lock {
+        check_mark(&rt, root.at())?;
+        check_lock(&rt, root.at())?;
+        let lock = match open_lock(&rt, &root) {
+            Ok(lock) => lock,
+            Err(e) => return Err(OpenFault::Lock(String::from_str(alloc, root.path())?, e)),
+        };
+        let is_held = match &lock {
             Some(file) => is_held(file),
             None => false,
         };
+        let in_use = !root.try_lock_shared() || is_held;
         Ok(FolderView {
             rt,
-            path: place,
+            root,
             lock,
             in_use,
         })
     }
 
-    /// Whether a writer has the folder open, so that what is read may change meanwhile.
+    /// Whether a writer has the folder open, so that the files may change meanwhile.
     pub fn is_in_use(&self) -> bool {
         self.in_use
     }
 
-    /// The names of the files in a folder, by its path from here, in the order of their bytes, but for the lock's and
-    /// those that are no UTF-8. Links count as what they lead to.
+    /// The names of the files in a folder, by its path from here, in the order of their bytes,
+    /// except the lock's and those that are not UTF-8. Links count as their targets.
     pub fn names(&self, folder: &str) -> Result<Vec<String>, OpenFault> {
-        let alloc = self.rt.alloc();
         let place = self.place(folder)?;
         let entries = match fs::read_dir(&self.rt, place.as_str()) {
             Ok(entries) => entries,
-            Err(e) => return Err(OpenFault::Io(place, e)),
+            Err(e) => return Err(self.fault(folder, e)),
         };
-        let mut names = Vec::new(alloc);
+        let mut names = Vec::new(self.rt.alloc());
         for entry in entries {
             match entry {
-                Ok(entry) => self.add_name(&entry, &mut names)?,
+                Ok(entry) => self.add_name(folder, &entry, &mut names)?,
                 // A name that is no UTF-8 is no log file's.
                 Err(e) if e.kind() == ErrorKind::InvalidFilename => {}
-                Err(e) => return Err(OpenFault::at(alloc, place.as_str(), e)),
+                Err(e) => return Err(self.fault(folder, e)),
             }
         }
         names.sort()?;
         Ok(names)
     }
 
-    fn add_name(&self, entry: &DirEntry, names: &mut Vec<String>) -> Result<(), OpenFault> {
+    fn add_name(
+        &self,
+        folder: &str,
+        entry: &DirEntry,
+        names: &mut Vec<String>,
+    ) -> Result<(), OpenFault> {
         let alloc = self.rt.alloc();
         let place = entry.path();
         if entry.file_name() == LOCK {
@@ -91,7 +97,7 @@ impl FolderView {
             // A writer deleted it, or a link leads nowhere.
             Err(e) if e.kind() == ErrorKind::NotFound => Ok(()),
             Err(_) if !is_log_name(entry.file_name()) => Ok(()),
-            Err(e) => Err(OpenFault::at(alloc, place.as_str(), e)),
+            Err(e) => Err(self.fault(folder, e)),
         }
     }
 
@@ -100,16 +106,16 @@ impl FolderView {
         let place = self.place(path)?;
         match read_file(&self.rt, place.as_str()) {
             Ok(bytes) => Ok(bytes),
-            Err(e) => Err(OpenFault::Io(place, e)),
+            Err(e) => Err(self.fault(path, e)),
         }
     }
 
-    /// So many bytes of the file at a path from here, from a place on, fewer where it ends.
+    /// So many bytes of the file at a path from here, from a place on; fewer if it ends before.
     pub fn read_part(&self, path: &str, at: u64, len: usize) -> Result<Vec<u8>, OpenFault> {
         let place = self.place(path)?;
         match read_part(&self.rt, place.as_str(), at, len) {
             Ok(bytes) => Ok(bytes),
-            Err(e) => Err(OpenFault::Io(place, e)),
+            Err(e) => Err(self.fault(path, e)),
         }
     }
 
@@ -118,20 +124,27 @@ impl FolderView {
         let place = self.place(path)?;
         match fs::metadata(&self.rt, place.as_str()) {
             Ok(metadata) => Ok(metadata.len()),
-            Err(e) => Err(OpenFault::Io(place, e)),
+            Err(e) => Err(self.fault(path, e)),
         }
     }
 
     fn place(&self, path: &str) -> Result<String, OpenFault> {
-        match join(self.rt.alloc(), self.path.as_str(), path) {
+        match self.root.place(self.rt.alloc(), path) {
             Ok(place) => Ok(place),
             Err(_) => Err(OpenFault::Memory),
         }
     }
+
+    fn fault(&self, path: &str, error: io::Error) -> OpenFault {
+        match self.root.name(self.rt.alloc(), path) {
+            Ok(name) => OpenFault::Io(name, error),
+            Err(_) => OpenFault::Memory,
+        }
+    }
 }
 
-fn open_lock(rt: &HostRuntime, path: &str) -> io::Result<Option<File>> {
-    let place = join(rt.alloc(), path, LOCK)?;
+fn open_lock(rt: &HostRuntime, root: &Root) -> io::Result<Option<File>> {
+    let place = root.place(rt.alloc(), LOCK)?;
     match File::open(rt, place.as_str()) {
         Ok(file) => Ok(Some(file)),
         Err(e) if e.kind() == ErrorKind::NotFound => Ok(None),

@@ -5,7 +5,7 @@
 /// Settings, and settings from text and as text.
 pub mod config {
     pub use raft_config::{Config, RecoveryMode};
-    pub use raft_settings::{read, with_text, write};
+    pub use raft_settings::{read, with_table, with_text, write};
 }
 
 /// Files: the contract of storage, files in memory that fail and crash, and a folder.
@@ -27,6 +27,12 @@ pub mod debug {
     pub use raft_dump::{
         LogItemReader, build_file_reader, build_file_writer, dump_with_file_system,
     };
+    pub use raft_records::{KeyValue, LogItem, LogItemContent};
+}
+
+/// A program of lines: each line is a call, and each reply a line.
+pub mod lines {
+    pub use raft_lines::{Ended, serve};
 }
 
 /// What an opening would lose of the log files, found before it.
@@ -62,6 +68,7 @@ pub use raft_log_engine::{
     NoListeners, PurgeHook, Refused,
 };
 pub use raft_records::{
-    Command, Factory, Fault, FileId, FileSeq, Fresh, IoKind, LogBatch, LogQueue, Message,
-    MessageExt, ReadableSize, Version,
+    Command, EntryIndex, EntryPlace, Factory, Fault, FileBlockHandle, FileId, FileSeq, Fresh,
+    IoKind, KeyValue, LogBatch, LogItem, LogItemContent, LogQueue, Message, MessageExt,
+    ReadableSize, Version,
 };

@@ -80,11 +80,11 @@ fn texts_are_read_and_written(rt: HostRuntime) {
 struct Refused(&'static str, &'static str);
 
 static REFUSED: [Refused; 14] = [
-    Refused("dir", "the settings are no TOML"),
-    Refused("dir = \"a\"\ndir = \"a\"\n", "the settings are no TOML"),
+    Refused("dir", "the settings are not valid TOML"),
+    Refused("dir = \"a\"\ndir = \"a\"\n", "the settings are not valid TOML"),
     Refused(
         "target-file-size = 9223372036854775808",
-        "the settings are no TOML",
+        "the settings are not valid TOML",
     ),
     Refused("dir = 1", "dir"),
     Refused("spill-dir = true", "spill-dir"),

@@ -1,5 +1,5 @@
-//! Files whose changes are given as orders, to a caller that carries them out before it believes an
-//! answer.
+//! Files whose changes are given as orders, to a caller that carries them out before it trusts a
+//! result.
 #![tactic(auto)]
 
 mod orders;

@@ -15,16 +15,15 @@ use raft_env::{FsFault, IoKind};
 use raft_memory::{MemoryFileSystem, NotedBytes};
 use std::alloc::{AllocError, Global};
 
-/// Orders by which a caller makes its files those of an image. Each is written on a descriptor before
-/// it is noted as told, in the bytes that `order_bytes` says.
+/// Orders by which a caller makes its files those of an image. Each is written to a descriptor
+/// before it is noted, in the bytes of `order_bytes`.
 #[derive(Drop)]
 pub struct Orders {
     alloc: Global,
     /// None: nobody carries the orders out, and none is written.
     out: Option<i32>,
     buffer: Vec<u8>,
-    /// What was ordered, and the bytes that were written, for clauses alone, as the files that were
-    /// found.
+    /// The orders and the bytes that were written, only for clauses, as the files that were found.
     told: History<Call>,
     written: History<NotedBytes>,
     found: History<MemoryFileSystem>,
@@ -144,6 +143,10 @@ impl Disk for Orders {
         self.check_file(path)
     }
 
+    fn check_rename(&self, _from: &str, _to: &str) -> Result<(), FsFault> {
+        Ok(())
+    }
+
     fn create(&mut self, path: &str) -> Result<(), FsFault> {
         let path = path.as_bytes();
         let order = Call::Create(NotedBytes::of(path));
@@ -209,7 +212,7 @@ impl Disk for Orders {
     }
 }
 
-/// Files that a caller keeps by orders, with an image of them that answers.
+/// Files that a caller keeps by orders, with an image of them for reads.
 pub type OrderedFileSystem = Mirror<Orders, MemoryFileSystem>;
 
 /// Files that a caller found by their paths, and folders, which it keeps by the orders to a

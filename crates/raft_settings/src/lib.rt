@@ -1,4 +1,4 @@
-//! Settings from text and as text, in TOML.
+//! Settings are read from TOML and written as TOML.
 #![tactic(auto)]
 
 mod laws;
@@ -7,5 +7,5 @@ mod value;
 mod writing;
 
 pub use laws::a_text_decides_its_settings;
-pub use reading::{read, with_text};
+pub use reading::{read, with_table, with_text};
 pub use writing::write;

@@ -11,9 +11,9 @@ use raft_records::{Fault, Fresh};
 use std::alloc::Global;
 use toml::{Table, Value};
 
-/// The settings of a text, a TOML document. Those that it doesn't name have their defaults, and keys that are no setting's
-/// are passed over. It fails as `InvalidArgument` for a text that is no document, or by the key whose value is no such
-/// setting; else as `Memory`. Whether settings contradict one another is not asked.
+/// Reads settings from a TOML document. A setting whose key is missing has its default. Other keys are passed over.
+/// Fails with `InvalidArgument` if the text is not a TOML document, or, with the key, if a value is not valid for its
+/// setting. Also fails with `Memory`. `Config::sanitize` checks whether the settings contradict one another.
 pub fn read(alloc: Global, text: &str) -> Result<Config, Fault>
     ensures value { IfOk result (ReadsAlone text.now) }
     ensures cause { IfErr result (IsLoneReadRefusal text.now) }
@@ -21,7 +21,7 @@ pub fn read(alloc: Global, text: &str) -> Result<Config, Fault>
     with_text(alloc, &Config::fresh(alloc), text)
 }
 
-/// As `read`, where settings that the text doesn't name are those given.
+/// As `read`, but a setting whose key is missing has the value that it has in `config`.
 pub fn with_text(alloc: Global, config: &Config, text: &str) -> Result<Config, Fault>
     ensures value { IfOk result (Reads text.now config.now) }
     ensures cause { IfErr result (IsReadRefusal text.now config.now) }
@@ -29,11 +29,12 @@ pub fn with_text(alloc: Global, config: &Config, text: &str) -> Result<Config, F
     match toml::table_from_str(alloc, text) {
         Ok(table) => with_table(alloc, config, &table),
         Err(error) if error.is_memory() => Err(Fault::Memory),
-        Err(_) => Err(Fault::InvalidArgument("the settings are no TOML")),
+        Err(_) => Err(Fault::InvalidArgument("the settings are not valid TOML")),
     }
 }
 
-fn with_table(alloc: Global, config: &Config, table: &Table) -> Result<Config, Fault>
+/// As `with_text`, for a table. It may be a table of the program's own TOML document, such as `[raft-engine]`.
+pub fn with_table(alloc: Global, config: &Config, table: &Table) -> Result<Config, Fault>
     ensures value { IfOk result (Changes (table_view table.now) config.now) }
     ensures cause { IfErr result (IsTableRefusal (table_view table.now) config.now) }
 {

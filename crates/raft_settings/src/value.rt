@@ -1,4 +1,4 @@
-//! What the values of a text are as settings.
+//! The settings that TOML values give.
 ghost use Rattle.std.specs.Prelude.{◌≡◌, List, ℕ, Option, Some, None, option_map};
 ghost use Rattle.toml.specs.Data.{Data, as_bool, as_str};
 ghost use Rattle.toml.specs.View.{view};
@@ -8,11 +8,11 @@ use raft_config::RecoveryMode;
 use raft_records::{ReadableSize, Version};
 use toml::Value;
 
-/// A setting that stands in a value of a text.
+/// A type of settings that is read from a TOML value.
 pub(crate) trait Setting: Sized {
     ghost reads: { Data → Option Self };
 
-    /// The setting, if the value is one.
+    /// The setting, if the value is valid for its type.
     fn read(value: &Value) -> Option<Self>
         ensures { result ≡ reads (view value.now) };
 }

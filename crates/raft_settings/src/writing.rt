@@ -1,4 +1,4 @@
-//! Settings as text.
+//! Settings are written as text.
 ghost use Rattle.std.specs.Prelude.{◌≡◌, Some, None, option_map, IfErr, IfOk, OnOk};
 ghost use Rattle.std.specs.String.{string_bytes};
 ghost use Rattle.toml.specs.Data.{Data, string};
@@ -19,8 +19,8 @@ const MB: u64 = 1 << 20;
 
 const GB: u64 = 1 << 30;
 
-/// The settings as a text, which `read` makes the same settings of. It fails as `InvalidArgument` where a number that is
-/// no size is greater than TOML allows; else as `Memory`.
+/// Writes settings as a TOML document, from which `read` returns the same settings. Fails with `InvalidArgument` if a
+/// number that is not a size exceeds 2^63 - 1, the greatest number of TOML. Also fails with `Memory`.
 pub fn write(alloc: Global, config: &Config) -> Result<String, Fault>
     ensures ok { IfOk result (λ text. parse_document (string_bytes text)
         ≡ Some (table_of config.now)) }

@@ -1,0 +1,18 @@
+use Rattle.raft_log_engine.proofs.EngineLemmas.{engine_keeps}
+use Rattle.raft_world.proofs.NumberLemmas.{acts_once}
+use Rattle.raft_world.proofs.Below.{CrashLaws}
+use Rattle.raft_world.proofs.laws.numbers_act_once.Goals as goal
+
+pub returns : goal.returns
+returns g c = λ folders node l happened.
+    let laws : CrashLaws = record {
+      left = c.crash_leaves_contents.ensures.left;
+      restarted = c.crash_leaves_contents.ensures.restarted;
+      found = c.crash_leaves_contents.ensures.found;
+      opens = c.crash_leaves_contents.ensures.opens;
+      as_they_are = c.crash_leaves_contents.ensures.as_they_are;
+      none = c.crash_leaves_contents.ensures.none;
+      clear = c.crash_leaves_contents.ensures.clear;
+      single = c.crash_leaves_contents.ensures.single;
+    } in
+    acts_once g.F.FileSystem folders laws (λ e. engine_keeps e) c.a_number_acts_once.ensures.once node l happened

@@ -1,0 +1,73 @@
+//! The laws of a log: what holds after any calls, crashes, closes and openings.
+ghost use Rattle.std.specs.Prelude.{ℕ, Option, Vec};
+ghost use Rattle.std.specs.declared.alloc.Global.{Global};
+ghost use Rattle.raft_log_engine.specs.Purge.{HasLastId, HasOpenGroup};
+ghost use Rattle.raft_world.specs.Effects.{ArmingHasNoEffect, CloseEnds, CompactionHasEffect, GiveUpEnds, PurgeHasEffect, ReadHasNoEffect, ReopenEnds, SyncHasEffect, WriteGroupHasEffect, WriteHasEffect, WriteOnceHasEffect};
+ghost use Rattle.raft_world.specs.Happens.{TheLogIsSafe};
+ghost use Rattle.raft_world.specs.Once.{NumbersActOnce};
+ghost use Rattle.raft_world.specs.OneCall.{CrashInCall};
+ghost use Rattle.raft_world.specs.ReadFirst.{WhatIsKeptIsReadFirst};
+
+use raft_env::FileSystem;
+use raft_log_engine::laws::crash_leaves_contents;
+use raft_once::laws::a_number_acts_once;
+use raft_queue_laws::queue::crash_leaves_a_prefix;
+
+/// The headline. After anything that may happen to a log, an engine that hasn't failed holds all that
+/// was accepted, and an opening finds what no crash takes, with a first part of the rest; or it fails,
+/// with a cause.
+pub fn the_log_is_safe<F: FileSystem>()
+    ensures { TheLogIsSafe F.FileSystem }
+{
+    crash_leaves_contents();
+}
+
+/// Exactly once: of what a log holds no number of a group acted twice, unless the group was cleaned
+/// between.
+pub fn numbers_act_once<F: FileSystem>()
+    ensures { NumbersActOnce F.FileSystem }
+{
+    crash_leaves_contents();
+    a_number_acts_once();
+}
+
+/// The law for one call of an engine of whose past nothing is known: what an opening finds after a
+/// crash inside the call.
+pub fn a_crash_in_a_call_leaves_a_prefix<F: FileSystem>()
+    ensures { CrashInCall F.FileSystem }
+{
+    crash_leaves_contents();
+}
+
+/// After a crash with any damage, also if that isn't detectable, the durable batches are read first.
+pub fn what_is_kept_is_read_first<F: FileSystem>()
+    ensures { WhatIsKeptIsReadFirst F.FileSystem }
+{
+    crash_leaves_contents();
+    crash_leaves_a_prefix();
+}
+
+/// Each call has its effect, by its own contract: a clause for each public call that takes
+/// `&mut self` or the engine itself. A call with listeners has the clauses of the one without.
+pub fn calls_have_effects<F: FileSystem>()
+    ensures write { WriteHasEffect F.FileSystem }
+    ensures write_once { WriteOnceHasEffect F.FileSystem }
+    ensures write_group { WriteGroupHasEffect F.FileSystem }
+    ensures compact_to { CompactionHasEffect F.FileSystem }
+    ensures sync { SyncHasEffect F.FileSystem }
+    ensures purge_expired_files { PurgeHasEffect F.FileSystem (Vec ℕ Global) HasOpenGroup HasLastId }
+    ensures must_rewrite_append_queue { PurgeHasEffect F.FileSystem ℕ (λ _. ⊥) (λ _. ⊥) }
+    ensures must_rewrite_rewrite_queue { PurgeHasEffect F.FileSystem ℕ HasOpenGroup HasLastId }
+    ensures must_purge_all_stale { PurgeHasEffect F.FileSystem ℕ (λ _. ⊥) (λ _. ⊥) }
+    ensures must_rewrite_append_groups { PurgeHasEffect F.FileSystem (Option ℕ) (λ _. ⊥) (λ _. ⊥) }
+    ensures must_rewrite_rewrite_groups { PurgeHasEffect F.FileSystem (Option ℕ) HasOpenGroup HasLastId }
+    ensures get_entry { ReadHasNoEffect F.FileSystem }
+    ensures fetch_entries_to { ReadHasNoEffect F.FileSystem }
+    ensures load_entry { ReadHasNoEffect F.FileSystem }
+    ensures image { ReadHasNoEffect F.FileSystem }
+    ensures refuse { ArmingHasNoEffect F.FileSystem }
+    ensures stop_at { ArmingHasNoEffect F.FileSystem }
+    ensures close { CloseEnds F.FileSystem }
+    ensures reopen { ReopenEnds F.FileSystem }
+    ensures give_up { GiveUpEnds F.FileSystem }
+{}
