@@ -31,7 +31,8 @@ def compressor():
     def compress(data):
         room = library.LZ4_compressBound(len(data))
         out = ctypes.create_string_buffer(room)
-        return out.raw[: library.LZ4_compress_default(data, out, len(data), room)]
+        length = library.LZ4_compress_default(data, out, len(data), room)
+        return out.raw[:length]
 
     return compress
 
@@ -295,11 +296,11 @@ class Tests:
         items = [dict(item, kind="put", key=f"k{n}", value="v") for n, item in enumerate(items)]
         self.write(folder, items)
         files = sorted(n for n in logs_in(folder) if n.endswith(".raftlog"))
-        last = os.path.join(folder, files[-1])
-        found, _ = records_of(bytes_of(last))
-        flip(last, found[1][0] + 18)
+        found = {name: records_of(bytes_of(os.path.join(folder, name)))[0] for name in files}
+        last = next(name for name in reversed(files) if len(found[name]) > 2)
+        flip(os.path.join(folder, last), found[last][1][0] + 18)
         os.remove(os.path.join(folder, files[1]))
-        gone = len(records_of(bytes_of(os.path.join(folder, files[0])))[0])
+        gone = len(found[files[0]])
         ran = self.run(folder, "repair", "--cut", "--mode", "any")
         self.expect(f"a repair: {ran}", ran.returncode == 0 and b".cut-" in ran.stdout and b".passed" in ran.stdout)
         self.run(folder, "put", 1, "later", "v")
