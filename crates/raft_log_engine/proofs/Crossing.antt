@@ -6,7 +6,7 @@ use Rattle.std.proofs.Crossing as items
 use Rattle.std.proofs.MapsCrossing as maps
 use Rattle.raft_env.specs.declared.env.FileSystem.{Ghosts}
 use Rattle.raft_entry_blocks.specs.contracts.block_cache.BlockCache as cache
-use Rattle.raft_entry_blocks.specs.contracts.recent_blocks.RecentBlocks as recent
+use Rattle.raft_entry_blocks.proofs.Crossing.{recent_send}
 use Rattle.raft_base.specs.contracts.history.History as history
 use Rattle.raft_config.specs.contracts.config.Config as config
 use Rattle.raft_files.specs.contracts.log_file.LogFileWriter as writer
@@ -78,9 +78,6 @@ item_sync = recorded_sync _ _ _ (item.the_type).to_one (struct_sync (shape item.
 
 pub batch_sync : IsSync batch.the_row
 batch_sync = view_sync batch.TheInside.the_row _ _ _ _ (search (sendable, items.crosses, item_sync) depth 20)
-
-recent_send : IsSend recent.the_row
-recent_send = view_send recent.TheInside.the_row _ _ _ _ (search (sendable, items.crosses, maps.crosses) depth 20)
 
 cache_send : IsSend cache.the_row
 cache_send = view_send cache.TheInside.the_row _ _ _ _ (search (sendable, items.crosses, recent_send) depth 20)
