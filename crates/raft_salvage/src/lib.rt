@@ -1,14 +1,9 @@
-//! Commands of raftctl that read all whole records of files into a log: of damaged ones into a new log, and of another
-//! log's into this one.
+//! Commands of raftctl that write what was gathered from files to a log: from damaged files to a new log, and from
+//! another log's folder to this log.
 #![tactic(auto)]
 
-mod gathering;
-mod report;
 mod salvaging;
-mod sources;
-mod tables;
 mod takeover;
-mod telling;
 mod writing;
 
 pub use salvaging::salvage;

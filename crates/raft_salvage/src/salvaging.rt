@@ -1,13 +1,11 @@
 //! Whole records of damaged files, in a new log.
 
-use crate::gathering::{Gathering, gather};
-use crate::sources::sources_of;
-use crate::telling::print_groups;
 use crate::writing::Writing;
 use anyhow::{Result, anyhow, bail};
 use raft_command_line::{Request, Salvage, Verb};
 use raft_commands::change_by;
 use raft_console::{Output, Status};
+use raft_gathering::{Gathering, gather, print_groups, sources_of};
 use raft_inspect::Filter;
 use std::fs::{self, File};
 use std::io::{self, ErrorKind};

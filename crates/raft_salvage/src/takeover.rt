@@ -1,13 +1,11 @@
 //! The contents of another log's folder, written to this one with its settings.
 
-use crate::gathering::{Gathering, gather};
-use crate::report::Report;
-use crate::sources::{Part, Source, sources_of};
 use crate::writing::Writing;
 use anyhow::{Result, bail};
 use raft_command_line::{Import, Request};
 use raft_commands::change_by;
 use raft_console::{Output, Status, tell};
+use raft_gathering::{Gathering, Part, Source, gather, sources_of};
 use raft_inspect::{Filter, ItemKind};
 use std::thread::Threads;
 
@@ -67,7 +65,7 @@ fn judge(
     folder: &str,
     gathering: &Gathering,
 ) -> Result<Option<Status>> {
-    let report: &Report = &gathering.report;
+    let report = &gathering.report;
     if report.is_whole() {
         return Ok(Some(Status::Done));
     }

@@ -1,12 +1,12 @@
 //! Groups that were read are written to a log.
 
-use crate::tables::{Group, Tables};
 use anyhow::Result;
 use raft_command_line::Request;
 use raft_commands::Work;
 use raft_console::{Output, Progress, Status, or_failure};
 use raft_contents::Filling;
 use raft_env::FileSystem;
+use raft_gathering::{Group, Tables};
 use raft_inspect::{Filter, ItemKind};
 use raft_log_engine::Engine;
 use raft_records::Fault;

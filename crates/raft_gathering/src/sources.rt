@@ -14,7 +14,7 @@ const NAME_LEN: usize = 24;
 
 /// What a file's name says behind that of a log file.
 #[derive(Clone, Copy, PartialEq, Eq)]
-pub(crate) enum Part {
+pub enum Part {
     /// Nothing: it is the log file.
     Log,
     /// It was moved aside whole, or is a copy.
@@ -25,7 +25,7 @@ pub(crate) enum Part {
 
 /// A file that is read.
 #[derive(Drop)]
-pub(crate) struct Source {
+pub struct Source {
     pub id: FileId,
     pub part: Part,
     /// Its name, as it is told.
@@ -36,7 +36,7 @@ pub(crate) struct Source {
 
 /// The files of a folder and of a second one that are read, or those that are named; by queue, the Rewrite queue's
 /// first, then by number, and what was cut off by its place.
-pub(crate) fn sources_of(
+pub fn sources_of(
     rt: &HostRuntime,
     folder: &str,
     spill: Option<&str>,

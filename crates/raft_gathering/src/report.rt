@@ -9,7 +9,7 @@ use std::alloc::{AllocError, Global};
 
 /// A place at which no record could be read.
 #[derive(Drop)]
-pub(crate) struct UnreadPlace {
+pub struct UnreadPlace {
     /// The file's name.
     pub name: String,
     pub offset: u64,
@@ -23,7 +23,7 @@ pub(crate) struct UnreadPlace {
 
 /// How many records were read of a file.
 #[derive(Drop)]
-pub(crate) struct FileRead {
+pub struct FileRead {
     pub name: String,
     pub records: u64,
     /// How many bytes an earlier use of the file left.
@@ -45,14 +45,14 @@ impl FileRead {
 
 /// A number of a queue's file that is missing, and the next one that is there.
 #[derive(Clone, Copy)]
-pub(crate) struct Missing {
+pub struct Missing {
     pub queue: LogQueue,
     pub number: u64,
     pub before: u64,
 }
 
 #[derive(Drop)]
-pub(crate) struct Report {
+pub struct Report {
     pub files: Vec<FileRead>,
     pub unread: Vec<UnreadPlace>,
     pub missing: Vec<Missing>,

@@ -11,7 +11,7 @@ use raft_whole_records::{FileSigns, Found, Gap, Marks, RecordScanner, WholeRecor
 use std::alloc::Global;
 
 /// Records that are read into tables.
-pub(crate) struct Gathering {
+pub struct Gathering {
     alloc: Global,
     /// Whether records are taken that an earlier use of a file left behind.
     stale: bool,
@@ -44,12 +44,7 @@ struct Bytes<'a> {
 }
 
 /// Reads these files, which are in their order.
-pub(crate) fn gather(
-    rt: &HostRuntime,
-    sources: &[Source],
-    stale: bool,
-    quiet: bool,
-) -> Result<Gathering> {
+pub fn gather(rt: &HostRuntime, sources: &[Source], stale: bool, quiet: bool) -> Result<Gathering> {
     let alloc = rt.alloc();
     let mut progress = Progress::new(*rt, quiet)?;
     let mut gathering = Gathering {
