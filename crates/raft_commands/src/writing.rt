@@ -191,7 +191,7 @@ fn carry_out<F: FileSystem>(
         }
         Verb::Compact(group, index) => compact(engine, *group, *index, request.sync, out),
         Verb::Clean(group) => clean(rt, engine, *group, request.sync),
-        Verb::Load(numbers) => load(rt, engine, *numbers, request.options.quiet),
+        Verb::Load(numbers) => load(rt, engine, *numbers, &request.options),
         // Done elsewhere.
         Verb::Repair
         | Verb::Purge(_)
