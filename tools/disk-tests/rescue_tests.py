@@ -331,6 +331,23 @@ class Tests:
             found = self.run(target, "get", 9, "old").returncode == 0
             self.expect(f"stale records {words}: {ran}", ran.returncode in (0, 4) and found == there)
 
+    def ends(self):
+        """An import leaves a torn end out, and is refused where more is broken."""
+        folder, _ = self.random_log("ends")
+        name = sorted(n for n in logs_in(folder) if n.endswith(".raftlog"))[-1]
+        told = self.sum_of(folder)
+        add(os.path.join(folder, name), record(0, b"", b"\x01" * 40)[:30])
+        ran = self.run(self.place("ends-taken"), "import", "--from-folder", folder)
+        same = self.sum_of(self.place("ends-taken")) == told
+        self.expect(f"a torn end: {ran}", ran.returncode == 4 and same and b"unread " + name.encode() in ran.stdout)
+        folder, model, _ = self.damaged("middle", 1, "footer")
+        target = self.place("middle-taken")
+        ran = self.run(target, "import", "--from-folder", folder)
+        self.expect(f"a broken record: {ran}", ran.returncode == 7 and not os.path.exists(target))
+        ran = self.run(target, "import", "--from-folder", folder, "--cut")
+        self.expect(f"with --cut: {ran}", ran.returncode == 4)
+        self.holds("import with --cut", target, model)
+
     def sums(self):
         folder, _ = self.random_log("sums")
         told = self.sum_of(folder)
@@ -394,6 +411,7 @@ def main():
         tests.salvages()
         tests.kept()
         tests.stale()
+        tests.ends()
         tests.statuses()
         tests.imports(asked.logs)
         tests.compressed(asked.compressed)
