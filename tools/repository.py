@@ -49,7 +49,7 @@ def crates():
 
 
 def below(name, listed):
-    """All crates of the repository that one stands on."""
+    """All crates of the repository that one depends on."""
     found, todo = set(), [name]
     while todo:
         for dep in listed[todo.pop()].uses:
@@ -60,7 +60,7 @@ def below(name, listed):
 
 
 def from_low_to_high():
-    """The crates' names, each behind those that it stands on, else in the order of crates.txt."""
+    """The crates' names, each after its dependencies, else in the order of crates.txt."""
     listed, order = crates(), []
 
     def add(name):

@@ -4,7 +4,7 @@
  * consecutive ones from the same places as raftbench. "in place" looks at each entry where the map has it; "copied"
  * takes a copy of each to memory of its own, as the engine's messages are. FOLDER should be in memory (/dev/shm).
  *
- *     gcc -O3 -o /tmp/lmdb tools/reference/lmdb.c -llmdb
+ *     gcc -O3 -o /tmp/lmdb bench/reference/lmdb.c -llmdb
  *     /tmp/lmdb FOLDER [COUNT [SIZE]]
  */
 #include <endian.h>

@@ -8,7 +8,7 @@
 #include <time.h>
 #include <unistd.h>
 
-enum { KEYS = 30, CHILDREN = 300, WRITERS = 6, CANCELS = 20, SECONDS = 20 };
+enum { KEYS = 30, CHILDREN = 300, WRITERS = 6, CANCELS = 20, SECONDS = 200 };
 
 static const char *const told = "opened by another process, from which this one was forked";
 
@@ -121,7 +121,8 @@ static void living_child(const char *folder) {
     CHECK(raftlog_open(folder, NULL, &log, text, sizeof text) == RAFTLOG_IN_USE);
     char owner_text[40];
     snprintf(owner_text, sizeof owner_text, "process %d has it open", (int)owner);
-    CHECK(access("/proc/locks", R_OK) || strstr(text, owner_text));
+    /* Not each system and file system tells who has a lock. */
+    CHECK(strstr(text, owner_text) || strstr(text, "another process has it open"));
     CHECK(!kill(owner, SIGKILL) && status_of(owner));
     log = open_with(folder, SMALL_FILES);
     CHECK(raftlog_close(log) == 0 && !kill(of_child, SIGKILL));

@@ -15,16 +15,20 @@ static bool is_same(int in, const char *name, int fd) {
     return !fstatat(in, name, &one, 0) && !fstat(fd, &other) && one.st_ino == other.st_ino && one.st_dev == other.st_dev;
 }
 
-/* A pipe or a device as LOCK isn't opened, since that could wait. */
+/* How often, and after how many microseconds, a new LOCK is tried again: a process that can't open the folder may have
+ * it for a moment. */
+enum { TRIES = 100, PAUSE = 1000 };
+
+/* The folder comes first, so that who can't lock that leaves LOCK alone; some file systems lock no folders. A pipe or a
+ * device as LOCK isn't opened, since that could wait. */
 int parts_lock(raftlog *log) {
     int in = log->root, error = 0;
     struct stat is;
+    if (flock(in, LOCK_EX | LOCK_NB) && errno == EWOULDBLOCK) return EWOULDBLOCK;
     if (!fstatat(in, "LOCK", &is, 0) && !S_ISREG(is.st_mode) && !S_ISDIR(is.st_mode)) return EILSEQ;
     int fd = openat(in, "LOCK", O_RDWR | O_CREAT | O_CLOEXEC, 0666);
     if (fd < 0) return errno;
     if (flock(fd, LOCK_EX | LOCK_NB)) error = errno;
-    /* Some file systems lock no folders. */
-    if (!error && flock(in, LOCK_EX | LOCK_NB) && errno == EWOULDBLOCK) error = EWOULDBLOCK;
     if (error) return close(fd), error;
     if (log->held >= 0) close(log->held);
     log->held = fd;
@@ -34,9 +38,13 @@ int parts_lock(raftlog *log) {
 /* If LOCK was removed, the lock of the next one is taken: EBUSY if another process has that. */
 int parts_keep_lock(raftlog *log) {
     if (is_same(log->root, "LOCK", log->held)) return 0;
-    parts_pause_forks();
-    int error = parts_lock(log);
-    parts_resume_forks();
+    int error = EWOULDBLOCK;
+    for (int tries = TRIES; error == EWOULDBLOCK && tries; tries--) {
+        if (tries < TRIES) usleep(PAUSE);
+        parts_pause_forks();
+        error = parts_lock(log);
+        parts_resume_forks();
+    }
     return error == EWOULDBLOCK ? EBUSY : error;
 }
 

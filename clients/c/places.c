@@ -73,7 +73,7 @@ static void lock_removed(void) {
     raftlog *log = open_with("locked", SMALL_FILES), *other;
     CHECK(!unlink("locked/LOCK"));
     CHECK(raftlog_open("locked", NULL, &other, text, sizeof text) == RAFTLOG_IN_USE && !other);
-    CHECK(!unlink("locked/LOCK"));
+    CHECK(access("locked/LOCK", F_OK));
     put_all(log, 'k', 0);
     int fd = open("locked/LOCK", O_RDWR);
     CHECK(fd >= 0 && flock(fd, LOCK_EX | LOCK_NB) && !close(fd));
@@ -175,12 +175,13 @@ static void damaged(const char *here) {
 
 /* The texts of openings give the path from the root, and the system's cause. */
 static void texts(const char *here) {
-    char text[TEXT_ROOM], place[TEXT_ROOM];
+    char text[TEXT_ROOM], place[TEXT_ROOM], unknown[TEXT_ROOM];
     raftlog *log = open_with("texts", NULL), *other;
     CHECK(raftlog_open("texts", NULL, &other, text, sizeof text) == RAFTLOG_IN_USE);
     snprintf(place, sizeof place, "%s/texts: this process has it open already", here);
-    if (access("/proc/locks", R_OK)) snprintf(place, sizeof place, "%s/texts: another process has it open", here);
-    CHECK(!strcmp(text, place) && raftlog_close(log) == 0);
+    /* Not each system and file system tells who has a lock. */
+    snprintf(unknown, sizeof unknown, "%s/texts: another process has it open", here);
+    CHECK((!strcmp(text, place) || !strcmp(text, unknown)) && raftlog_close(log) == 0);
     CHECK(!symlink("nowhere", "texts/0000000000000009.raftlog"));
     CHECK(raftlog_open("texts", NULL, &other, text, sizeof text) == RAFTLOG_NOT_PLAIN);
     snprintf(place, sizeof place, "%s/texts/0000000000000009.raftlog: %s", here, raftlog_code_text(RAFTLOG_NOT_PLAIN));

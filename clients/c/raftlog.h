@@ -76,7 +76,7 @@
 extern "C" {
 #endif
 
-#define RAFTLOG_VERSION "0.1.0"
+#define RAFTLOG_VERSION "0.2.0"
 
 /* The version of the library that is loaded. RAFTLOG_VERSION is that of this header, which may be an older one. */
 const char *raftlog_version(void);
@@ -319,7 +319,8 @@ int raftlog_sync(raftlog *log);
 int raftlog_compact_to(raftlog *log, uint64_t group, uint64_t index, uint64_t *count);
 
 /* Purges. They change nothing of the log's contents, sync the log, and free the space of what it no longer needs. They
- * fail as RAFTLOG_RANGE, RAFTLOG_INVALID or RAFTLOG_TRY_AGAIN, or as RAFTLOG_IO.
+ * fail as RAFTLOG_RANGE, RAFTLOG_INVALID or RAFTLOG_TRY_AGAIN, or as RAFTLOG_IO. The log may have failed then: the
+ * next call shows it.
  *
  * By the settings' thresholds (`purge-threshold`, `purge-rewrite-threshold`), to be called every few seconds: it does
  * nothing while the log is small. It stores the groups that have old entries and should be compacted, for

@@ -36,13 +36,13 @@ module _ {F H R W : Type 0} {g : Ghosts F H R W} where
     pub err : (code ≡ pos 0 → ⊥) → IsCloseRefused code e files
     pub failed : (code ≡ pos 11) ↔ (has_failed e ≡ true)
     pub any_moment : MovesBy g.directory g.moments g.refusals_of (λ _. LeavesAllowed (folders_of e)
-        (durable_of e) (unsynced_of e)) e.file_system files
+        (durable_of e) (unsynced_of e)) e.log.store.file_system files
     -- what is known of atomic groups is found again, and of records of failed calls
     pub together : code ≡ pos 0 → has_groups_together e ≡ true
         → do_groups_ascend (readable_queue Rewrite (folders_of e) (g.directory files)) ≡ true
     pub completed : code ≡ pos 0 → FoundCompletedRecords e
         → ReadCompletedRecordsIfSimple (folders_of e) (g.directory files)
     pub unchanged : has_failed e ≡ true
-        → OnlyReads g.directory g.moments g.refusals_of e.file_system files
+        → OnlyReads g.directory g.moments g.refusals_of e.log.store.file_system files
     pub others : LeavesOtherFiles (folders_of e) (directory_of e) (g.directory files)
-    pub passed : LeavesPassedOver e.pipes (directory_of e) (g.directory files)
+    pub passed : LeavesPassedOver e.log.store.pipes (directory_of e) (g.directory files)

@@ -28,7 +28,7 @@ part_ascends batches counts found left all =
     let parts = subst (λ (bs : List Batch). do_groups_ascend bs ≡ true) (sym (take-append-drop left.from first)) begins in
     ap do_groups_ascend left.is ∙ ascend_fewer (take left.from first) (drop left.from first) parts
 
-pub left_ascends : {F H R W : Type 0} {g : Ghosts F H R W} (e : Engine F H R W g) → has_failed e ≡ false → e.groups.together ≡ true → (d : CrashImage) → Leaves (directory_of e) d → AreDetectableIn (folders_of e) (directory_of e) d
+pub left_ascends : {F H R W : Type 0} {g : Ghosts F H R W} (e : Engine F H R W g) → has_failed e ≡ false → e.log.groups.together ≡ true → (d : CrashImage) → Leaves (directory_of e) d → AreDetectableIn (folders_of e) (directory_of e) d
     → do_groups_ascend (left_of_queue Rewrite (folders_of e) (directory_of e) d) ≡ true
 left_ascends e alive together d leaves detectable =
     let n = directory_of e in
@@ -36,5 +36,5 @@ left_ascends e alive together d leaves detectable =
     let h = x.2 in
     let batches = batches_in h.queues Rewrite in
     let counts = counts_in h.queues Rewrite in
-    ∥∥₁_elim (recovered_first (folders_of e) batches counts n (queues_recover e.pipes (folders_of e) h.queues n h.has Rewrite) d (crash_leaves_synced n d leaves) (detectable Rewrite)) (Bool-set _ _) (λ left.
+    ∥∥₁_elim (recovered_first (folders_of e) batches counts n (queues_recover e.log.store.pipes (folders_of e) h.queues n h.has Rewrite) d (crash_leaves_synced n d leaves) (detectable Rewrite)) (Bool-set _ _) (λ left.
     part_ascends batches counts (left_of_queue Rewrite (folders_of e) n d) left ((h.more.indexed.groups refl).groups.together together)))

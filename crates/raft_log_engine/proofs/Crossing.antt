@@ -24,6 +24,8 @@ use Rattle.raft_tables.specs.contracts.memtable.MemTable as table
 use Rattle.raft_tables.specs.contracts.owed.OwedMarks as owed
 use Rattle.raft_tables.specs.contracts.rewritten.GroupsMet as groups
 use Rattle.raft_tables.specs.contracts.stats.GlobalStats as stats
+use Rattle.raft_purge_steps.specs.contracts.log.Log as log
+use Rattle.raft_purge_steps.specs.contracts.log_store.LogStore as store
 use Rattle.raft_purge.specs.contracts.renewal_groups.NewFiles as new_files
 use Rattle.raft_purge_rules.specs.contracts.rounds.Rounds as rounds
 use Rattle.raft_log_engine.specs.contracts.engine.Engine as engine
@@ -149,8 +151,20 @@ module _ (F H R W : RattleType) (g : Ghosts F.Denot H.Denot R.Denot W.Denot) whe
   pipes_send : IsSend W → IsSend (pipes.the_row F H R W g)
   pipes_send w = view_send (pipes.TheInside.the_row F H R W g) _ _ _ _ (recorded_send _ _ _ (pipes.TheInside.the_type F H R W g).to_one (struct_send (shape (pipes.TheInside.the_type F H R W g)) (pipes_parts w)))
 
+  store_parts : IsSend F → IsSend W → AllSend (shape (store.the_type F H R W g)).fields
+  store_parts f w = (pipes_send w, (f, tt))
+
+  store_send : IsSend F → IsSend W → IsSend (store.the_field F H R W g).row
+  store_send f w = struct_send (shape (store.the_type F H R W g)) (store_parts f w)
+
+  log_parts : IsSend F → IsSend W → AllSend (shape (log.the_type F H R W g)).fields
+  log_parts f w = (store_send f w, (cache_field_send, (tables_field_send, (owed_send, (stats_send, (groups_send, tt))))))
+
+  log_send : IsSend F → IsSend W → IsSend (log.the_field F H R W g).row
+  log_send f w = struct_send (shape (log.the_type F H R W g)) (log_parts f w)
+
   pub engine_parts : IsSend F → IsSend W → AllSend (shape (engine.the_type F H R W g)).fields
-  engine_parts f w = (search (sendable, items.crosses) depth 20, (config_field_send, (f, (pipes_send w, (tables_field_send, (stats_send, (owed_send, (groups_send, (rounds_send, (search (sendable, items.crosses, new_files_send) depth 20, (search sendable, (cache_field_send, (search (sendable, items.crosses, item_send) depth 20, (search sendable, (search (sendable, history_send, batch_send) depth 20, (search (sendable, history_send, batch_send) depth 20, (search (sendable, history_send) depth 20, tt)))))))))))))))))
+  engine_parts f w = (search (sendable, items.crosses) depth 20, (config_field_send, (log_send f w, (rounds_send, (search (sendable, items.crosses, new_files_send) depth 20, (search sendable, (search (sendable, items.crosses, item_send) depth 20, (search sendable, (search (sendable, history_send, batch_send) depth 20, (search (sendable, history_send, batch_send) depth 20, (search (sendable, history_send) depth 20, tt)))))))))))
 
   pub engine_send : IsSend F → IsSend W → IsSend (engine.the_row F H R W g)
   engine_send f w = recorded_send _ _ _ (engine.the_type F H R W g).to_one (struct_send (shape (engine.the_type F H R W g)) (engine_parts f w))

@@ -84,7 +84,7 @@ module _ {F H R W : Type 0} {g : Ghosts F H R W} where
   pub opens_given_up : (config : Config) (found : F) (e : Engine F H R W g) (files : F) (why : Fault) → why ≡ fault.Memory → g.directory files ≡ directory_of e → g.moments files ≡ moments_of e → g.refusals_of files ≡ refusals_of e → Opens config found (Ok e)
       → Opens {g = g} config found (Err (record { fault = why; file_system = files }))
   opens_given_up config found e files why is now moments counts opens =
-      let given : OnlyReads g.directory g.moments g.refusals_of e.file_system files = record { same_files = now; same_moments = moments; no_fewer = subst (NoFewer (refusals_of e)) (sym counts) (omega arith, omega arith) } in record {
+      let given : OnlyReads g.directory g.moments g.refusals_of e.log.store.file_system files = record { same_files = now; same_moments = moments; no_fewer = subst (NoFewer (refusals_of e)) (sym counts) (omega arith, omega arith) } in record {
         opened = record {
           contents = tt;
           ok = tt;

@@ -34,17 +34,17 @@ module _ {F H R W : Type 0} {g : Ghosts F H R W} where
   pub record RewritesGroups (watermark from budget : ℕ) (result : Result (Option ℕ) Fault)
       (old new : Engine F H R W g) : Type 0 where
     pub rewritten : IfOk result (λ next. HasRewrittenFrom (min watermark (last_seq (queue_of old))) from
-        next (tables_of old.tables) (tables_of new.tables))
+        next (tables_of old.log.tables) (tables_of new.log.tables))
     -- they, in ascending order, are as many as fit the budget
     pub fits : IfOk result (λ next. (x : NextGroups) × (x.next ≡ next)
         × IsStrictlySortedBy nat_cmp x.groups.items
-        × AreNextGroups from (tables_of old.tables) x
-        × FitBudget budget (Some (min watermark (last_seq (queue_of old)))) old.tables x)
+        × AreNextGroups from (tables_of old.log.tables) x
+        × FitBudget budget (Some (min watermark (last_seq (queue_of old)))) old.log.tables x)
     pub rotated : OnOk result (HasRotatedAt (min watermark (last_seq (queue_of old)))
         (queue_of old) (queue_of new))
     pub append : OnOk result ((queue_of new).first ≡ (queue_of old).first)
     pub rewrite : OnOk result ((rewrite_queue_of new).first ≡ (rewrite_queue_of old).first)
-    pub lost : OnErr result (HasLostFront None new.tables (queue_of old) (queue_of new))
+    pub lost : OnErr result (HasLostFront None new.log.tables (queue_of old) (queue_of new))
     pub rounds : new.rounds ≡ old.rounds
     -- short calls of the Rewrite queue that were under way end with it
     pub renewal : LeavesNewFiles result None old.renewal new.renewal

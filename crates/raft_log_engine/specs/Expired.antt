@@ -32,23 +32,23 @@ module _ {F H R W : Type 0} {g : Ghosts F H R W} where
   -- where the Append queue is rewritten, of which these are. No file from the barrier on is dropped
   pub record HasPurgedExpired (barrier : ℕ) (e e' : Engine F H R W g) (asked : List ℕ) : Type 0 where
     pub decisions : List Decision
-    pub decided : AreDecisions (needs_of e) e.rounds (tables_of e.tables) decisions
+    pub decided : AreDecisions (needs_of e) e.rounds (tables_of e.log.tables) decisions
     pub value : asked ≡ groups_by Asked decisions
-    pub append : HasPurgedAppend barrier (groups_by Rewritten decisions) e'.tables (queue_of e)
+    pub append : HasPurgedAppend barrier (groups_by Rewritten decisions) e'.log.tables (queue_of e)
         (queue_of e') (option_map (λ w. w.rewrite) (needs_of e).append)
     pub rewrite : (rewrite_queue_of e').first
         ≡ first_renewed (needs_of e).rewrite (has_groups_together e) (rewrite_queue_of e)
     -- where only the Append queue is rewritten, of the others nothing is moved
     pub others :
         (needs_of e).rewrite ≡ false
-        → KeepsOthers (groups_by Rewritten decisions) (tables_of e.tables) (tables_of e'.tables)
+        → KeepsOthers (groups_by Rewritten decisions) (tables_of e.log.tables) (tables_of e'.log.tables)
     -- the queue has a file behind the watermark, and ends as before
     pub last : last_seq (queue_of e') ≡ last_seq (queue_of e)
     -- where no queue is to be rewritten pipes, tables, counters and what is known of groups stay
     pub idle :
         needs_of e ≡ no_needs
-        → (e'.pipes ≡ e.pipes) × (e'.tables ≡ e.tables) × (e'.stats ≡ e.stats)
-        × (e'.groups ≡ e.groups)
+        → (e'.log.store.pipes ≡ e.log.store.pipes) × (e'.log.tables ≡ e.log.tables) × (e'.log.stats ≡ e.log.stats)
+        × (e'.log.groups ≡ e.log.groups)
     pub rounds :
         (group : ℕ) → rounds_of e'.rounds group
         ≡ rounds_after (needs_of e).append

@@ -9,6 +9,7 @@ use Rattle.raft_records.specs.Item.{Entry}
 use Rattle.raft_tables.specs.Listing.{IsListing, IsWithoutKeys, listed}
 use Rattle.raft_log_engine.specs.declared.engine.image.GroupImage.{GroupImage}
 
+-- the numbers of the groups of an image
 abbrev pub groups_of : List GroupImage → List ℕ
 groups_of images = map (λ image. image.group) images
 

@@ -12,8 +12,8 @@ module _ {F H R W : Type 0} {g : Ghosts F H R W} where
   -- these bytes stand at a place of the block that was used last
   pub record IsLoaded (e : Engine F H R W g) (bytes : List ℕ) (place : EntryPlace) : Type 0 where
     pub stands : has_failed e ≡ false
-    pub first : IsFirst place.block e.cache
-    pub bytes_are : bytes_in (both_blocks_now e.pipes (directory_of e)) place ≡ bytes
+    pub first : IsFirst place.block e.log.cache
+    pub bytes_are : bytes_in (both_blocks_now e.log.store.pipes (directory_of e)) place ≡ bytes
 
   -- .. those of the entry that was asked for, and no place where there is none
   abbrev pub IsLoadAnswer : Engine F H R W g → Option (List ℕ) → Option EntryPlace → Type 0

@@ -27,13 +27,13 @@ module _ {F H R W : Type 0} {g : Ghosts F H R W} where
   -- how many log files a queue has, and how many bytes if each had the target size, up to 2^64 - 1
   abbrev pub use_of : LogQueue → Engine F H R W g → QueueUse
   use_of queue e =
-      let files = length (pipe_of queue e.pipes).sealed + 1 in
+      let files = length (pipe_of queue e.log.store.pipes).sealed + 1 in
       record { files = files; bytes = min (files * target_size_of e) (2 ^ 64 - 1) }
 
   -- the entries and values that were placed in the Rewrite queue, and those that left it since
   abbrev pub rewritten_of : Engine F H R W g → RewrittenEntries
   rewritten_of e =
-      record { rewritten = rewritten_count e.stats; deleted = deleted_count e.stats }
+      record { rewritten = rewritten_count e.log.stats; deleted = deleted_count e.log.stats }
 
   -- up to which file of the Append queue a purge by watermarks rewrites, and before which one a group is
   -- old, where that is due

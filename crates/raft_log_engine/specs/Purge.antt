@@ -229,27 +229,28 @@ pub record Frees {E : Type 0} (purge : Purge) (result : Result ℕ E) (m m' : Me
 module _ {F H R W : Type 0} {g : Ghosts F H R W} where
   -- the tables of an engine
   abbrev pub tables_in : Engine F H R W g → MemTables
-  tables_in e = e.tables
+  tables_in e = e.log.tables
 
   -- the Rewrite queue of an engine ends with an atomic group that isn't ended
   abbrev pub HasOpenGroup : Engine F H R W g → Type 0
-  HasOpenGroup e = EndsOpen e.pipes (directory_of e)
+  HasOpenGroup e = EndsOpen e.log.store.pipes (directory_of e)
 
   -- no id is left for an atomic group
   abbrev pub HasLastId : Engine F H R W g → Type 0
-  HasLastId e = ids_bound e.groups.ids ≡ 2 ^ 64
+  HasLastId e = ids_bound e.log.groups.ids ≡ 2 ^ 64
 
   -- the new files of short calls of the Rewrite queue that begin now
   abbrev pub next_files : Engine F H R W g → NewFiles
-  next_files e = files_new None e.pipes.rewrite e.groups
+  next_files e = files_new None e.log.store.pipes.rewrite e.log.groups
 
   -- the same of an engine after a purge
   abbrev pub LeavesOpen : Purge → Engine F H R W g → Type 0
-  LeavesOpen purge e = MayLeaveOpen purge e.pipes (directory_of e)
+  LeavesOpen purge e = MayLeaveOpen purge e.log.store.pipes (directory_of e)
 
+  -- no id is left for an atomic group after a purge that writes some
   abbrev pub LacksId : Purge → Engine F H R W g → Type 0
-  LacksId purge e = MayLackId purge e.groups
+  LacksId purge e = MayLackId purge e.log.groups
 
   -- the marks that an engine owed have no record, as they stand by its tables after a call
   abbrev pub OwesTooMuch : Engine F H R W g → Engine F H R W g → Type 0
-  OwesTooMuch old new = HaveOwedNoRecord (tables_of new.tables) (owed_of old.owed) fault.Range
+  OwesTooMuch old new = HaveOwedNoRecord (tables_of new.log.tables) (owed_of old.log.owed) fault.Range

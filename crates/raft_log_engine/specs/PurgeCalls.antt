@@ -39,9 +39,9 @@ module _ {F H R W : Type 0} {g : Ghosts F H R W} where
         (state_of old) (state_of new)
     pub others : ChangesOnlyItsLog (state_of old) (state_of new)
     pub front :
-        has_failed old ≡ false → has_failed new ≡ true → KeepsFront queue old.pipes new.pipes
+        has_failed old ≡ false → has_failed new ≡ true → KeepsFront queue old.log.store.pipes new.log.store.pipes
     pub path :
-        has_failed old ≡ false → has_failed new ≡ true → IfErr result (IsFailureCause ends_open new.pipes
+        has_failed old ≡ false → has_failed new ≡ true → IfErr result (IsFailureCause ends_open new.log.store.pipes
         (directory_of new) (refusals_of old) (refusals_of new))
     pub cause :
         has_failed old ≡ false → IfErr result (IsPurgeFault (contents_of old) (queue_of new)
@@ -51,9 +51,9 @@ module _ {F H R W : Type 0} {g : Ghosts F H R W} where
   -- which files it leaves, how many it answers, and what it moves; it counts no rounds
   pub record FreesFiles (purge : Purge) (result : Result ℕ Fault) (old new : Engine F H R W g)
       : Type 0 where
-    pub value : IfOk result (HasFreed purge old.pipes new.pipes)
-    pub freed : Frees purge result old.tables new.tables old.stats new.stats old.groups new.groups
-        old.pipes new.pipes
+    pub value : IfOk result (HasFreed purge old.log.store.pipes new.log.store.pipes)
+    pub freed : Frees purge result old.log.tables new.log.tables old.log.stats new.log.stats old.log.groups new.log.groups
+        old.log.store.pipes new.log.store.pipes
     pub rounds : new.rounds ≡ old.rounds
     -- short calls that were under way end with it, unless it is the next one of them, or refused
     pub renewal :
@@ -73,9 +73,11 @@ module _ {F H R W : Type 0} {g : Ghosts F H R W} where
   IsAppendRewrite watermark step old new result =
       IsPurge (RewriteAppend (record { watermark = watermark; step = step })) old new result
 
+  -- a call rewrote the Rewrite queue
   abbrev pub IsRewriteRewrite : Engine F H R W g → Engine F H R W g → Result ℕ Fault → Type 0
   IsRewriteRewrite old new result = IsPurge RewriteRewrite old new result
 
+  -- a call dropped the files in which nothing is left
   abbrev pub IsStalePurge : Engine F H R W g → Engine F H R W g → Result ℕ Fault → Type 0
   IsStalePurge old new result = IsPurge DropStale old new result
 
@@ -87,14 +89,14 @@ module _ {F H R W : Type 0} {g : Ghosts F H R W} where
     pub rounds : OnErr result (new.rounds ≡ old.rounds)
     -- short calls that were under way end with it
     pub renewal : LeavesNewFiles result None old.renewal new.renewal
-    pub first : OnErr result (HasLostFront (Some barrier) new.tables (queue_of old) (queue_of new))
+    pub first : OnErr result (HasLostFront (Some barrier) new.log.tables (queue_of old) (queue_of new))
     -- what stands in the Rewrite queue moves where that was due, then what stands up to the watermark of
     -- the Append queue where that was; where only the Rewrite queue was, it counts anew what left it
     pub moved : OnOk result (MovesDue (needs_of old).rewrite
-        (option_map (λ w. w.rewrite) (needs_of old).append) (tables_of old.tables)
-        (tables_of new.tables))
+        (option_map (λ w. w.rewrite) (needs_of old).append) (tables_of old.log.tables)
+        (tables_of new.log.tables))
     pub counted : OnOk result ((needs_of old).rewrite ≡ true → (needs_of old).append ≡ None
-        → deleted_count new.stats ≡ 0)
+        → deleted_count new.log.stats ≡ 0)
 
   -- a purge by watermarks
   pub record IsExpiry (barrier : ℕ) (old new : Engine F H R W g)

@@ -42,31 +42,32 @@ module _ {F H R W : Type 0} {g : Ghosts F H R W} where
   abbrev pub first_new : Engine F H R W g → ℕ
   first_new e = first_new_of e.renewal (rewrite_queue_of e)
 
+  -- the new files of those short calls
   abbrev pub files_new : Engine F H R W g → NewFiles
-  files_new e = files_new_of e.renewal (rewrite_queue_of e) e.groups
+  files_new e = files_new_of e.renewal (rewrite_queue_of e) e.log.groups
 
   -- the short calls go on while groups follow, and end behind the last ones; one that is refused may end
   -- them. The Append queue is as it was
   pub record RenewsGroups (from budget : ℕ) (result : Result (Option ℕ) Fault)
       (old new : Engine F H R W g) : Type 0 where
     pub renewed : IfOk result (λ next. HasRenewedFrom (first_new old) from next
-        (tables_of old.tables) (tables_of new.tables))
+        (tables_of old.log.tables) (tables_of new.log.tables))
     -- they, in ascending order, are as many as fit the budget
     pub fits : IfOk result (λ next. (x : NextGroups) × (x.next ≡ next)
         × IsStrictlySortedBy nat_cmp x.groups.items
-        × AreNextGroups from (tables_of old.tables) x × FitBudget budget None old.tables x)
+        × AreNextGroups from (tables_of old.log.tables) x × FitBudget budget None old.log.tables x)
     pub renewal : MatchResult result
         (λ next. new.renewal ≡ (if is_some next then Some (files_new old) else None))
         (λ e. (new.renewal ≡ None) ⊎ (new.renewal ≡ old.renewal))
     pub rewrite : IfOk result (λ next. (rewrite_queue_of new).first
-        ≡ first_left (first_new old) (has_groups_together old) next new.tables (rewrite_queue_of old))
+        ≡ first_left (first_new old) (has_groups_together old) next new.log.tables (rewrite_queue_of old))
     -- so where the calls of a series left nothing in any of the old files, these are gone
     pub gone : IfOk result (λ next. next ≡ None → has_groups_together old ≡ true
-        → ((group : ℕ) → IsAllFrom (first_new old) (or_empty (tables_of new.tables group)))
+        → ((group : ℕ) → IsAllFrom (first_new old) (or_empty (tables_of new.log.tables group)))
         → (rewrite_queue_of new).first ≡ first_new old)
     pub append : queue_of new ≡ queue_of old
-    pub lost : OnErr result (HasDroppedSome (first_new old) new.tables
+    pub lost : OnErr result (HasDroppedSome (first_new old) new.log.tables
         (rewrite_queue_of old) (rewrite_queue_of new))
     -- behind the last ones it counts anew what left the queue
-    pub counted : IfOk result (λ next. next ≡ None → deleted_count new.stats ≡ 0)
+    pub counted : IfOk result (λ next. next ≡ None → deleted_count new.log.stats ≡ 0)
     pub rounds : new.rounds ≡ old.rounds

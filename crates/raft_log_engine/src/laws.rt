@@ -102,7 +102,7 @@ pub fn the_damage_of_an_engine_is_detectable<F: FileSystem>(engine: &Engine<F>)
 /// they don't recycle, and none of the Rewrite queue.
 pub fn pipes_are_made_by_the_settings<F: FileSystem>(engine: &Engine<F>)
     ensures form { has_failed engine.now ≡ false
-        → HaveForm (form_by (settings_of engine.now)) engine.now.pipes }
+        → HaveForm (form_by (settings_of engine.now)) engine.now.log.store.pipes }
 {}
 
 /// Where no log stands each atomic group's batches stand together: a new engine knows that of itself.

@@ -1,6 +1,7 @@
 //! Lines that put something into the batch of the next write.
 
 use crate::answer::{Answer, Unanswered};
+use crate::plain::Plain;
 use crate::words::{Names, bytes_of, number, one};
 use raft_records::{Command, EntryIndex, Fault, LogBatch};
 use raft_test_rows::{Outcome, TextEntry};
@@ -120,6 +121,36 @@ fn add_bytes(
     Ok(add_raw(alloc, batch, group, index, bytes_of(alloc, names, bytes)?)?)
 }
 
+// One entry of these bytes, which may be none, with the index 0.
+fn add_plain(
+    alloc: Global,
+    names: &Names,
+    batch: &mut LogBatch,
+    group: u64,
+    words: &[&str],
+) -> Result<(), Unanswered> {
+    let [bytes] = words else {
+        return Err(Unanswered::BadLine);
+    };
+    let bytes = bytes_of(alloc, names, bytes)?;
+    let entries = vec![in alloc; Plain { bytes }]?;
+    Ok(batch.add_entries::<Plain>(group, &entries)?)
+}
+
+fn put_plain(
+    alloc: Global,
+    names: &Names,
+    batch: &mut LogBatch,
+    group: u64,
+    words: &[&str],
+) -> Result<(), Unanswered> {
+    let [key, bytes] = words else {
+        return Err(Unanswered::BadLine);
+    };
+    let (key, bytes) = (bytes_of(alloc, names, key)?, bytes_of(alloc, names, bytes)?);
+    Ok(batch.put_message(group, key, &Plain { bytes })?)
+}
+
 // What a line puts into the batch.
 fn change(
     alloc: Global,
@@ -137,6 +168,8 @@ fn change(
         "message" => put_message(alloc, names, batch, group, rest),
         "ent" => add_entries(alloc, names, batch, group, rest),
         "raw" => add_bytes(alloc, names, batch, group, rest),
+        "plain" => add_plain(alloc, names, batch, group, rest),
+        "plain-message" => put_plain(alloc, names, batch, group, rest),
         "clean" if rest.is_empty() => Ok(batch.add_command(group, Command::Clean)?),
         "compact" => {
             let index = one(rest)?;
@@ -193,10 +226,11 @@ impl Writing {
         Ok(Answer::Done)
     }
 
-    /// Whether a batch is empty where it was written, and isn't where it was refused.
-    pub(crate) fn has_kept(&self, outcome: &Outcome) -> bool {
+    /// Whether a batch is empty after it was written, and has its items after it was refused.
+    pub(crate) fn has_kept(&self, had_items: bool, outcome: &Outcome) -> bool {
         match outcome {
-            Outcome::Size(size) => self.batch.is_empty() == size.is_ok(),
+            Outcome::Size(Ok(_)) => self.batch.is_empty(),
+            Outcome::Size(Err(_)) => self.batch.is_empty() != had_items,
             Outcome::Sizes(Ok(sizes)) => are_kept(&self.batches, sizes),
             Outcome::Sizes(Err(_)) => !has_empty(&self.batches),
             _ => true,

@@ -2,6 +2,7 @@
 
 use crate::answer::{Answer, Unanswered};
 use crate::check::outlook;
+use crate::dump::items_at;
 use crate::words::{Names, bytes_of, number};
 use raft_env::{FileSystem, FsFault, Permission};
 use raft_fork::fork;
@@ -181,6 +182,7 @@ fn answer_at<F: Faulty>(
     match verb {
         "fork" => forked(alloc, config, files, word),
         "agree" => agree(alloc, files, word),
+        "items" => items_at(alloc, files, word),
         _ => look_at(files, verb, word),
     }
 }

@@ -1,9 +1,10 @@
 //! Lines that ask an engine for what it holds.
 
 use crate::answer::{Answer, Unanswered};
+use crate::plain::Plain;
 use crate::words::{Names, Spelled, bound, bytes_of, number, one, two};
 use raft_env::FileSystem;
-use raft_records::Message;
+use raft_records::{Fault, LogQueue, Message};
 use raft_test_rows::{Engine, Outcome, TextEntry, state_of};
 use std::alloc::{AllocError, Global};
 
@@ -203,6 +204,39 @@ fn span_of<F: FileSystem>(engine: &Engine<F>, words: &[&str]) -> Result<Answer, 
     Ok(Answer::Pair(first, last))
 }
 
+fn bytes_in(message: Result<Option<Plain>, Fault>) -> Answer {
+    Answer::Outcome(Outcome::Value(match message {
+        Ok(Some(Plain { bytes })) => Ok(Some(bytes)),
+        Ok(None) => Ok(None),
+        Err(fault) => Err(fault),
+    }))
+}
+
+// The message of any bytes at a key.
+fn plain_message<F: FileSystem>(
+    alloc: Global,
+    names: &Names,
+    engine: &Engine<F>,
+    words: &[&str],
+) -> Result<Answer, Unanswered> {
+    let [group, key] = words else {
+        return Err(Unanswered::BadLine);
+    };
+    let group = number(group)?;
+    let key = bytes_of(alloc, names, key)?;
+    Ok(bytes_in(engine.get_message::<Plain>(group, &key)))
+}
+
+// Whether a queue is to be rewritten by its size.
+fn needs<F: FileSystem>(engine: &Engine<F>, words: &[&str]) -> Result<Answer, Unanswered> {
+    let queue = match words {
+        ["append"] => LogQueue::Append,
+        ["rewrite"] => LogQueue::Rewrite,
+        _ => return Err(Unanswered::BadLine),
+    };
+    Ok(Answer::Is(engine.needs_rewrite_log_files(queue)))
+}
+
 // What an engine answers to one word.
 fn answer_whole<F: FileSystem>(
     alloc: Global,
@@ -232,6 +266,9 @@ pub(crate) fn answer<F: FileSystem>(
     match *verb {
         "entry" => entry_at(alloc, engine, rest),
         "message-at" => message_at(alloc, names, engine, rest),
+        "plain-entry" => Ok(bytes_in(engine.get_entry::<Plain>(one(rest)?, 0))),
+        "plain-at" => plain_message(alloc, names, engine, rest),
+        "needs" => needs(engine, rest),
         "span" => span_of(engine, rest),
         "fetch" => fetched(alloc, engine, rest),
         "scan" => scanned(alloc, names, engine, rest),

@@ -45,11 +45,22 @@ const SETTINGS_LINES: [&str; 3] = ["settings", "set", "name"];
 
 const LOG_LINES: [&str; 7] = ["open", "why", "close", "reopen", "give-up", "fail", "stop"];
 
-const BATCH_LINES: [&str; 10] = [
-    "put", "del", "message", "ent", "raw", "clean", "compact", "next", "flags", "drop",
+const BATCH_LINES: [&str; 12] = [
+    "put",
+    "del",
+    "message",
+    "ent",
+    "raw",
+    "plain",
+    "plain-message",
+    "clean",
+    "compact",
+    "next",
+    "flags",
+    "drop",
 ];
 
-const FILE_LINES: [&str; 13] = [
+const FILE_LINES: [&str; 14] = [
     "folder",
     "store",
     "note",
@@ -63,6 +74,7 @@ const FILE_LINES: [&str; 13] = [
     "logs",
     "fork",
     "agree",
+    "items",
 ];
 
 const PROGRAM_LINES: [&str; 3] = ["<", "read", "serve"];
@@ -206,10 +218,11 @@ fn answer_closing<F: Faulty>(
     held: &mut Held<F>,
     words: &[&str],
 ) -> Result<Answer, Unanswered> {
+    let is_open = matches!(held, Held::Engine(_));
     match words {
         ["why"] => return reason(alloc, held.fault()),
-        ["close"] => held.close(),
-        ["reopen"] => held.reopen(),
+        ["close"] if is_open => held.close(),
+        ["reopen"] if is_open => held.reopen(),
         ["give-up"] => {
             held.give_up();
             return Ok(Answer::Done);
@@ -247,8 +260,9 @@ fn outcome<F: Faulty>(
     let Held::Engine(engine) = held else {
         return Err(Unanswered::BadLine);
     };
+    let had_items = !writing.batch.is_empty();
     let outcome = outcome_of(alloc, engine, writing, call);
-    if !writing.has_kept(&outcome) {
+    if !writing.has_kept(had_items, &outcome) {
         return Ok(Answer::Text(String::from_str(alloc, "another batch")?));
     }
     if let Outcome::Sizes(_) = &outcome {

@@ -2,25 +2,29 @@
 use Rattle.std.specs.Prelude.{◌≡◌, ◌+◌, ◌⊎◌, ℕ, IfErr, IfOk, List, OnOk, Result}
 use Rattle.raft_base.specs.declared.errors.Fault.{Fault}
 use Rattle.raft_base.specs.declared.pipe_log.LogQueue.{LogQueue}
-use Rattle.raft_base.specs.declared.pipe_log.LogQueue.TheVariants.{Rewrite}
+use Rattle.raft_base.specs.declared.pipe_log.LogQueue.TheVariants.{Append, Rewrite}
 use Rattle.raft_env.specs.Directory.{Directory}
 use Rattle.raft_env.specs.Refusal.{Refusals}
+use Rattle.raft_env.specs.declared.env.FileSystem.{Ghosts as FsGhosts}
 use Rattle.raft_entry_blocks.specs.Cache.{HoldsRestIn}
 use Rattle.raft_entry_blocks.specs.Recent.{KeptBlocks}
 use Rattle.raft_listeners.specs.declared.event_sink.EventSink.{Ghosts}
 use Rattle.raft_listeners.specs.declared.purge_events.PurgeEvents.{PurgeEvents}
 use Rattle.raft_queues.specs.Dual.{DualState, KeepsOtherPipe, pipe_of}
 use Rattle.raft_tables.specs.Owed.{Owed}
-use Rattle.raft_tables.specs.Tables.{Tables}
+use Rattle.raft_tables.specs.OwedMarks.{owed_of}
+use Rattle.raft_tables.specs.Tables.{Tables, tables_of}
 use Rattle.raft_tables.specs.declared.rewritten.GroupsMet.{GroupsMet}
 use Rattle.raft_crash_laws.specs.Index.{LogIndex}
 use Rattle.raft_crash_laws.specs.Log.{known_groups}
 use Rattle.raft_purge_steps.specs.Cut.{AddsRest}
 use Rattle.raft_purge_steps.specs.Faults.{HaveOwedNoRecord, IsPurgeRefusal, KeepsFolders}
 use Rattle.raft_purge_steps.specs.Keeping.{KeepsRewriting, StillHolds}
+use Rattle.raft_purge_steps.specs.Logs.{HoldsRest, by_groups_of, by_marks_of}
 use Rattle.raft_purge_steps.specs.Steps.{IfStands, IsLog, LogValue, by_marks, log_by}
 use Rattle.raft_purge_steps.specs.Unfit.{IsUnfitWhere}
 use Rattle.raft_purge_steps.specs.declared.fault.StepFault.{StepFault}
+use Rattle.raft_purge_steps.specs.declared.log.Log.{Log}
 use Rattle.raft_rewrite.specs.OpenGroup.{HasNoId, IsAtomicRefusal}
 use Rattle.raft_stale.specs.Dropping.{IfFails, KeepsFront}
 
@@ -46,16 +50,6 @@ IsExpiredRefusal t owed groups d d' n' old new IsUnfit =
 abbrev pub IsLogBy : {X : Type 0} → (X → LogIndex) → DualState → Directory → LogValue → Type 0
 IsLogBy {X} i d n v = (x : X) × IsLog (log_by d (i x) n) v
 
--- what groups have is written to the Rewrite queue again, and the Append queue's pipe is the same. All
--- batches that were written but one are full, and unless the log is in doubt the blocks that are kept are
--- the log's
-pub record WritesAgain {T L : Type 0} {g : Ghosts L} (result : Result T StepFault)
-    (d d' : DualState) (n' : Directory) (kept' : KeptBlocks) (events events' : PurgeEvents L g)
-    : Type 0 where
-  pub keeps : KeepsRewriting result d d' events events'
-  pub cut : OnOk result (AddsRest events events')
-  pub holds : IfStands result (HoldsRestIn d' n' kept')
-
 -- on files of which these are the directory, its moments and the refusals of calls
 module _ {F : Type 0} (directory : F → Directory) (moments : F → List Directory)
     (refusals_of : F → Refusals) where
@@ -77,13 +71,43 @@ module _ {F : Type 0} (directory : F → Directory) (moments : F → List Direct
     pub cause : IfErr result (Why d d' (directory new) (refusals_of old) (refusals_of new)
         (IsUnfitWhere (IsLogBy i d (directory old))))
 
-  -- one of the Rewrite queue, which writes atomic groups too: the Append queue's pipe is the same
-  pub record Renews {L : Type 0} {g : Ghosts L} (result : Result ℕ StepFault) (t t' : Tables)
-      (groups groups' : GroupsMet) (d d' : DualState) (kept' : KeptBlocks) (old new : F)
+module _ {F H R W : Type 0} (fs : FsGhosts F H R W) where
+  -- the same of logs
+  abbrev pub PurgesBy : {X L : Type 0} → {g : Ghosts L} → LogQueue
+      → (DualState → DualState → Directory → Refusals → Refusals → (Fault → Type 0) → StepFault
+      → Type 0)
+      → (PurgeEvents L g → PurgeEvents L g → Type 0) → Result ℕ StepFault → (X → LogIndex)
+      → (X → LogIndex) → Log F H R W → Log F H R W → PurgeEvents L g → PurgeEvents L g → Type 0
+  PurgesBy queue Why IsCutSo result i i' l l' events events' = Purges fs.directory fs.moments
+      fs.refusals_of queue Why IsCutSo result i i' l.store.pipes l'.store.pipes l'.cache
+      l.store.file_system l'.store.file_system events events'
+
+  -- a purge of the Append queue, with the marks that are owed, whatever is known of atomic groups
+  abbrev pub PurgesAppend : {L : Type 0} → {g : Ghosts L} → Result ℕ StepFault → Log F H R W
+      → Log F H R W → PurgeEvents L g → PurgeEvents L g → Type 0
+  PurgesAppend result l l' events events' =
+      PurgesBy Append (IsOwedRefusal (tables_of l'.tables) (owed_of l.owed)) AddsRest result
+      (by_groups_of l) (by_groups_of l') l l' events events'
+
+  -- a purge of the Rewrite queue, which writes atomic groups too, whichever marks are owed
+  abbrev pub PurgesRewrite : {L : Type 0} → {g : Ghosts L} → Result ℕ StepFault → Log F H R W
+      → Log F H R W → PurgeEvents L g → PurgeEvents L g → Type 0
+  PurgesRewrite result l l' events events' = PurgesBy Rewrite (IsRenewRefusal l'.groups) AddsRest
+      result (by_marks_of l) (by_marks_of l') l l' events events'
+
+  -- what groups have is written to the Rewrite queue again, and the Append queue's pipe is the same.
+  -- All batches that were written but one are full, and unless the log is in doubt the blocks that are
+  -- kept are the log's
+  pub record WritesAgain {T L : Type 0} {g : Ghosts L} (result : Result T StepFault)
+      (l l' : Log F H R W) (events events' : PurgeEvents L g) : Type 0 where
+    pub keeps : KeepsRewriting result l.store.pipes l'.store.pipes events events'
+    pub cut : OnOk result (AddsRest events events')
+    pub holds : IfStands result (HoldsRest fs l')
+
+  -- such a purge: the Append queue's pipe is the same
+  pub record Renews {L : Type 0} {g : Ghosts L} (result : Result ℕ StepFault) (l l' : Log F H R W)
       (events events' : PurgeEvents L g) : Type 0 where
-    pub purges : Purges Rewrite (IsRenewRefusal groups') AddsRest result
-        (by_marks t (known_groups groups)) (by_marks t' (known_groups groups'))
-        d d' kept' old new events events'
-    pub others : KeepsOtherPipe Rewrite d d'
-    pub folders : OnOk result (KeepsFolders d d')
-    pub together : groups'.together ≡ groups.together
+    pub purges : PurgesRewrite result l l' events events'
+    pub others : KeepsOtherPipe Rewrite l.store.pipes l'.store.pipes
+    pub folders : OnOk result (KeepsFolders l.store.pipes l'.store.pipes)
+    pub together : l'.groups.together ≡ l.groups.together

@@ -22,6 +22,7 @@ pub record IsCleanLog (d : DualState) (t : Tables) (n : Directory) (owed : Owed)
 abbrev pub put_item : ℕ → List ℕ × List ℕ → Item
 put_item group p = record { group = group; content = Put p.0 p.1 }
 
+-- the values of these keys as items
 abbrev pub put_items : ℕ → List (List ℕ × List ℕ) → Batch
 put_items group pairs = map (put_item group) pairs
 

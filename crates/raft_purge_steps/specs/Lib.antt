@@ -5,9 +5,11 @@ pub mod RenewGathering
 pub mod Renewing
 pub mod Gathering
 pub mod Keeping
+pub mod Logs
 pub mod Rewriting
 pub mod Rotates
 pub mod Scope
 pub mod Steps
+pub mod Store
 pub mod Unfit
 pub mod Cut

@@ -1,10 +1,9 @@
 -- What a record of the Rewrite queue makes of the log, and of the batch that it holds.
-use Rattle.std.specs.Prelude.{◌≡◌, ◌∷◌, IfErr, IfOk, List, [], OnErr, OnOk, Result}
+use Rattle.std.specs.Prelude.{◌≡◌, ◌∷◌, IfErr, IfOk, [], OnErr, OnOk, Result}
 use Rattle.raft_base.specs.declared.errors.Fault.{Fault}
 use Rattle.raft_base.specs.declared.pipe_log.FileBlockHandle.{FileBlockHandle}
 use Rattle.raft_env.specs.Directory.{Directory}
-use Rattle.raft_env.specs.Moments.{MovesBy}
-use Rattle.raft_env.specs.Refusal.{Refusals}
+use Rattle.raft_env.specs.declared.env.FileSystem.{Ghosts as FsGhosts}
 use Rattle.raft_listeners.specs.Telling.{written_in}
 use Rattle.raft_listeners.specs.declared.event_sink.EventSink.{Ghosts}
 use Rattle.raft_listeners.specs.declared.purge_events.PurgeEvents.{PurgeEvents}
@@ -13,7 +12,9 @@ use Rattle.raft_records.specs.Item.{Batch}
 use Rattle.raft_purge_steps.specs.Faults.{IsPurgeRefusal}
 use Rattle.raft_purge_steps.specs.Keeping.{KeepsRewriting}
 use Rattle.raft_purge_steps.specs.Steps.{IfStands, KeepsEachLog, KeepsLogTaking}
+use Rattle.raft_purge_steps.specs.Store.{Moves, RefusedBy, files_of}
 use Rattle.raft_purge_steps.specs.declared.fault.StepFault.{StepFault}
+use Rattle.raft_purge_steps.specs.declared.log_store.LogStore.{LogStore}
 use Rattle.raft_rewrite.specs.OpenGroup.{IsWrittenAt}
 use Rattle.raft_rewrite.specs.declared.rewriting.Rewriting.{Rewriting}
 
@@ -31,17 +32,14 @@ pub record LeavesLog {T L : Type 0} {g : Ghosts L} (result : Result T StepFault)
   pub err : OnErr result (IfStands result (KeepsEachLog d d' n n'))
   pub side : IfStands result (StandSideBySide d' n')
 
--- on files of which these are the directory, its moments and the refusals of calls
-module _ {F : Type 0} (directory : F → Directory) (moments : F → List Directory)
-    (refusals_of : F → Refusals) where
+module _ {F H R W : Type 0} (fs : FsGhosts F H R W) where
   -- this batch stands in the Rewrite queue then; at each moment a crash finds what the log held,
   -- with the batch or without
   pub record WritesBatch {L : Type 0} {g : Ghosts L} (result : Result FileBlockHandle StepFault)
-      (batch : Batch) (IsUnfit : Fault → Type 0) (d d' : DualState) (old new : F)
+      (batch : Batch) (IsUnfit : Fault → Type 0) (s s' : LogStore F H R W)
       (events events' : PurgeEvents L g) : Type 0 where
-    pub now : IfOk result (IsWrittenAt batch d d' (directory old) (directory new))
+    pub now : IfOk result (IsWrittenAt batch s.pipes s'.pipes (files_of fs s) (files_of fs s'))
     pub written : OnOk result (written_in events' ≡ batch ∷ written_in events)
-    pub log : LeavesLog result d d' (directory old) (directory new) events events'
-    pub any_moment : MovesBy directory moments refusals_of (KeepsLogTaking batch d) old new
-    pub cause : IfErr result (IsPurgeRefusal d d' (directory new) (refusals_of old)
-        (refusals_of new) IsUnfit)
+    pub log : LeavesLog result s.pipes s'.pipes (files_of fs s) (files_of fs s') events events'
+    pub any_moment : Moves fs (KeepsLogTaking batch s.pipes) s s'
+    pub cause : IfErr result (RefusedBy fs IsPurgeRefusal s s' IsUnfit)

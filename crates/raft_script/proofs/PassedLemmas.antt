@@ -16,10 +16,10 @@ module _ {F H R W : Type 0} {g : Ghosts F H R W} where
 
   -- .. and so does one that only reads
   pub passes_read : (old new : Engine F H R W g) → directory_of new ≡ directory_of old
-      → new.pipes ≡ old.pipes → PassesOver old new
+      → new.log.store.pipes ≡ old.log.store.pipes → PassesOver old new
   passes_read old new files pipes = record {
     files = λ queue path passed. ap (λ (n : Directory). file_at n path) files;
-    still = λ alive. subst (λ (d : DualState). StayPassedOver old.pipes d) (sym pipes) (λ queue path passed. passed);
+    still = λ alive. subst (λ (d : DualState). StayPassedOver old.log.store.pipes d) (sym pipes) (λ queue path passed. passed);
   }
 
   -- one operation after others: a failed engine stays so, and changes nothing

@@ -3,8 +3,7 @@ use Rattle.std.specs.Prelude.{◌≡◌, ◌+◌, ◌<◌, ◌≤◌, ℕ, IfErr
 use Rattle.raft_base.specs.declared.errors.Fault.{Fault}
 use Rattle.raft_base.specs.declared.pipe_log.LogQueue.{LogQueue}
 use Rattle.raft_base.specs.declared.pipe_log.LogQueue.TheVariants.{Append}
-use Rattle.raft_env.specs.Directory.{Directory}
-use Rattle.raft_env.specs.Refusal.{Refusals}
+use Rattle.raft_env.specs.declared.env.FileSystem.{Ghosts as FsGhosts}
 use Rattle.raft_listeners.specs.declared.event_sink.EventSink.{Ghosts}
 use Rattle.raft_listeners.specs.declared.purge_events.PurgeEvents.{PurgeEvents}
 use Rattle.raft_pipes.specs.PipeState.{PipeState, last_seq}
@@ -21,7 +20,9 @@ use Rattle.raft_purge_steps.specs.Faults.{HaveOwedNoRecord, IsPurgeRefusal}
 use Rattle.raft_purge_steps.specs.Keeping.{KeepsRewriting, StillHolds}
 use Rattle.raft_purge_steps.specs.Scope.{AreAllEmptied}
 use Rattle.raft_purge_steps.specs.Steps.{by_groups}
+use Rattle.raft_purge_steps.specs.Store.{IsIntact, files_of, refusals_in}
 use Rattle.raft_purge_steps.specs.declared.fault.StepFault.{StepFault}
+use Rattle.raft_purge_steps.specs.declared.log_store.LogStore.{LogStore}
 use Rattle.raft_stale.specs.Dropping.{IfFails, KeepsFront}
 use Rattle.raft_stale.specs.Scope.{HasLostFront, first_left, up_to_barrier}
 
@@ -33,14 +34,6 @@ pub record LosesFiles {E : Type 0} (queue : LogQueue) (Begins : PipeState → Pi
   pub value : IfOk result (λ count. (pipe_of queue d).first + count ≡ (pipe_of queue d').first)
   pub first : Begins (pipe_of queue d) (pipe_of queue d')
   pub last : last_seq (pipe_of queue d') ≡ last_seq (pipe_of queue d)
-
--- .. of synced queues: however that ends the pipes stand side by side
-pub record LosesSynced (queue : LogQueue) (Begins : PipeState → PipeState → Type 0)
-    (result : Result ℕ Fault) (d d' : DualState) (n' : Directory) (old new : Refusals)
-    : Type 0 where
-  pub files : LosesFiles queue Begins result d d'
-  pub side : StandSideBySide d' n'
-  pub cause : IfErr result (IsDualReadRefusal d old new)
 
 -- the Append queue ends with the same file. It begins with the first one in which something stands,
 -- or with the barrier if that comes before, or where it began if that is later; so behind files in
@@ -59,16 +52,22 @@ pub record HasPurgedFront (m : MemTables) (owed' : Owed) (p p' : PipeState) : Ty
   pub rotated : last_seq p' ≡ suc (last_seq p)
   pub owed : OwesNothing owed'
 
--- on files of which these are the directory, its moments and the refusals of calls
-module _ {F : Type 0} (directory : F → Directory) (moments : F → List Directory)
-    (refusals_of : F → Refusals) where
+module _ {F H R W : Type 0} (fs : FsGhosts F H R W) where
+  -- .. of synced queues: however that ends the pipes stand side by side
+  pub record LosesSynced (queue : LogQueue) (Begins : PipeState → PipeState → Type 0)
+      (result : Result ℕ Fault) (s s' : LogStore F H R W) : Type 0 where
+    pub files : LosesFiles queue Begins result s.pipes s'.pipes
+    pub side : IsIntact fs s'
+    pub cause : IfErr result (IsDualReadRefusal s.pipes (refusals_in fs s) (refusals_in fs s'))
+
   -- marks that are owed are written to the Rewrite queue: the log is kept, whichever of these stand
   -- for it in memory. Where that fails as many are owed as before
   pub record WritesMarks {T X L : Type 0} {g : Ghosts L} (result : Result T StepFault)
-      (i i' : X → LogIndex) (owed owed' : Owed) (d d' : DualState) (old new : F)
+      (i i' : X → LogIndex) (owed owed' : Owed) (s s' : LogStore F H R W)
       (events events' : PurgeEvents L g) : Type 0 where
-    pub log : StillHolds directory moments refusals_of result i i' d d' old new events events'
-    pub keeps : KeepsRewriting result d d' events events'
+    pub log : StillHolds fs.directory fs.moments fs.refusals_of result i i' s.pipes s'.pipes
+        s.file_system s'.file_system events events'
+    pub keeps : KeepsRewriting result s.pipes s'.pipes events events'
     pub cut : OnOk result (KeepsCut events events')
     pub err : OnErr result (owed' ≡ owed)
 
@@ -76,23 +75,25 @@ module _ {F : Type 0} (directory : F → Directory) (moments : F → List Direct
   -- begins as before. The log is kept, whichever of these stand for it in memory, and the batches
   -- that were written are cut. `IsUnfit` says why one can't be written
   pub record Drops {X L : Type 0} {g : Ghosts L} (queue : LogQueue) (IsUnfit : Fault → Type 0)
-      (result : Result ℕ StepFault) (i i' : X → LogIndex) (d d' : DualState) (old new : F)
+      (result : Result ℕ StepFault) (i i' : X → LogIndex) (s s' : LogStore F H R W)
       (events events' : PurgeEvents L g) : Type 0 where
-    pub log : StillHolds directory moments refusals_of result i i' d d' old new events events'
-    pub value : IfOk result (λ count. (pipe_of queue d).first + count ≡ (pipe_of queue d').first)
-    pub front : IfFails result (KeepsFront queue d d')
+    pub log : StillHolds fs.directory fs.moments fs.refusals_of result i i' s.pipes s'.pipes
+        s.file_system s'.file_system events events'
+    pub value : IfOk result (λ count. (pipe_of queue s.pipes).first + count
+        ≡ (pipe_of queue s'.pipes).first)
+    pub front : IfFails result (KeepsFront queue s.pipes s'.pipes)
     pub cut : OnOk result (KeepsCut events events')
-    pub cause : IfErr result (IsPurgeRefusal d d' (directory new) (refusals_of old)
-        (refusals_of new) IsUnfit)
+    pub cause : IfErr result (IsPurgeRefusal s.pipes s'.pipes (files_of fs s')
+        (refusals_in fs s) (refusals_in fs s') IsUnfit)
 
   -- .. of the Append queue, behind a rotation, with all marks that are owed written; whichever of
   -- these groups are known. However it ends, no file is dropped from the first one on in which
   -- something stands
   pub record PurgesFront {X L : Type 0} {g : Ghosts L} (m : MemTables) (known : X → KnownGroups)
-      (result : Result ℕ StepFault) (owed owed' : Owed) (d d' : DualState) (old new : F)
+      (result : Result ℕ StepFault) (owed owed' : Owed) (s s' : LogStore F H R W)
       (events events' : PurgeEvents L g) : Type 0 where
     pub drops : Drops Append (HaveOwedNoRecord (tables_of m) owed) result
         (λ x. by_groups (tables_of m) owed (known x)) (λ x. by_groups (tables_of m) owed' (known x))
-        d d' old new events events'
-    pub files : OnOk result (HasPurgedFront m owed' d.append d'.append)
-    pub first : HasLostFront None m d.append d'.append
+        s s' events events'
+    pub files : OnOk result (HasPurgedFront m owed' s.pipes.append s'.pipes.append)
+    pub first : HasLostFront None m s.pipes.append s'.pipes.append

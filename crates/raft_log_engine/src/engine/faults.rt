@@ -11,8 +11,7 @@ impl Engine<MemoryFileSystem> {
     ghost use Rattle.raft_log_engine.specs.Durability.{SameButArmed};
     ghost use Rattle.raft_log_engine.specs.Engine.{armed_in, stop_in};
 
-    /// Arms one more refusal: of the calls of that sort from now on, the nth, counted from 1, fails
-    /// so.
+    /// Arms one more refusal: from now on the nth call of that sort, counted from 1, fails so.
     pub fn refuse(&mut self, call: FsCall, nth: u64, kind: IoKind) -> Result<(), Fault>
         ensures ok { OnOk result (armed_in self.new ≡ armed_in self.old ++ (call, nth, kind) ∷ []) }
         ensures value { OnOk result (0 < nth) }
@@ -21,16 +20,16 @@ impl Engine<MemoryFileSystem> {
         ensures others { stop_in self.new ≡ stop_in self.old }
         ensures unchanged { SameButArmed self.old self.new }
     {
-        self.file_system.refuse(call, nth, kind)
+        self.log.store.file_system.refuse(call, nth, kind)
     }
 
-    /// Of the calls from now on that may change files, the nth, counted from 1, and each later one
-    /// fail as `Other`.
+    /// From now on the nth call that may change files, counted from 1, and each later one fail as
+    /// `Other`.
     pub fn stop_at(&mut self, nth: u64)
         ensures ok { stop_in self.new ≡ Some nth }
         ensures others { armed_in self.new ≡ armed_in self.old }
         ensures unchanged { SameButArmed self.old self.new }
     {
-        self.file_system.stop_at(nth);
+        self.log.store.file_system.stop_at(nth);
     }
 }

@@ -23,8 +23,8 @@ impl<F: FileSystem> Engine<F> {
         ensures fits { (result.append.1 < 10 ^ 16) × (result.rewrite.1 < 10 ^ 16) }
     {
         FileSpans {
-            append: self.pipes.file_span(LogQueue::Append),
-            rewrite: self.pipes.file_span(LogQueue::Rewrite),
+            append: self.log.store.pipes.file_span(LogQueue::Append),
+            rewrite: self.log.store.pipes.file_span(LogQueue::Rewrite),
         }
     }
 

@@ -17,15 +17,15 @@ impl<F: FileSystem> Engine<F> {
     ghost use Rattle.raft_log_engine.specs.PurgeCalls.{HearsOfPurge, PurgesLog};
     ghost use Rattle.raft_log_engine.specs.RewriteGroups.{RenewsGroups};
 
-    /// Syncs all that was written, and writes what groups have in the log files of the Rewrite queue
-    /// to new files of it: the known groups from one on, as many as have `budget` bytes of entries and
-    /// values there together, but one at least. Answers with which group the next call begins, and
-    /// none where this was the last one. The first call, with group 0, goes on to a next file, unless
-    /// calls before it were left half-way: then to their new files. Behind the last one the files
-    /// before the new ones are dropped, all together, where nothing stands in any and the batches of
-    /// each atomic group stand together. Writes and reads may come between these calls. An opening or
-    /// another purge ends them, and an `Err` may: begin again with group 0, since the next call goes
-    /// on to a next file anew. It changes no contents, and is refused, as
+    /// Syncs everything that was written, and writes what groups have in the Rewrite queue's files
+    /// to new files of it. It takes the known groups from one on, as many as have `budget` bytes of
+    /// entries and values there together, but at least one. Returns the group with which the next
+    /// call begins, and none after the last one. The first call, with group 0, switches to the next
+    /// file, unless earlier calls stopped halfway: then it uses their new files. After the last
+    /// group the files before the new ones are dropped, all together, if none has contents and the
+    /// batches of each atomic group are together. Writes and reads may come between these calls. An
+    /// opening or another purge ends the series, and an `Err` may: then begin again with group 0,
+    /// which switches to the next file once more. It changes no contents, and is refused, as
     /// `must_rewrite_rewrite_queue`.
     pub fn must_rewrite_rewrite_groups(
         &mut self,
@@ -41,7 +41,7 @@ impl<F: FileSystem> Engine<F> {
         self.must_rewrite_rewrite_groups_with_listeners(from, budget, &mut NoListeners::new())
     }
 
-    /// As `must_rewrite_rewrite_groups`, of which listeners hear as of the other purges.
+    /// As `must_rewrite_rewrite_groups`, and listeners hear as in the other purges.
     pub fn must_rewrite_rewrite_groups_with_listeners<L: EventSink>(
         &mut self,
         from: u64,
@@ -59,7 +59,7 @@ impl<F: FileSystem> Engine<F> {
         if self.failed {
             return Err(Fault::Failed);
         }
-        let Ok(found) = next_groups(self.alloc, &self.tables, from, None, budget) else {
+        let Ok(found) = next_groups(self.alloc, &self.log.tables, from, None, budget) else {
             return Err(Fault::Memory);
         };
         let NextGroups { groups, next } = found;

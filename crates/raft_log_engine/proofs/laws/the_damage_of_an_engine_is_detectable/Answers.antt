@@ -13,5 +13,5 @@ returns g c =
     let e = c.args.engine.now in
     record {
       crash = λ stands begun past fresh consistent choices whole. of_both (λ (queue : LogQueue). IsDetectableQueue (all_of (folders_of e)) queue (directory_of e) (left_by choices (directory_of e))) (λ queue.
-          ∥∥₁_elim (e.queues stands) ∥∥₁_prop (λ x. c.damage_of_a_queue_is_detectable.ensures.detectable queue (pipe_of queue e.pipes) (folders_of e) _ _ (directory_of e) (x.2.has queue) (e.completed stands queue (begun queue)) (past queue) (fresh queue) consistent choices whole));
+          ∥∥₁_elim (e.queues stands) ∥∥₁_prop (λ x. c.damage_of_a_queue_is_detectable.ensures.detectable queue (pipe_of queue e.log.store.pipes) (folders_of e) _ _ (directory_of e) (x.2.has queue) (e.completed stands queue (begun queue)) (past queue) (fresh queue) consistent choices whole));
     }

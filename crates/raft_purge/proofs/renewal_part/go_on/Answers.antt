@@ -21,25 +21,25 @@ returns-in-Some-clause-value g c = rw c.in-Some.is refl
 
 pub returns-in-Some-clause-within : goal.returns-in-Some-clause-within
 returns-in-Some-clause-within g c =
-    let u = subst (λ (f : Option NewFiles). MayGoOnWith f c.args.pipes.now (tables_of c.args.tables.now) (known_groups c.args.groups.now) (g.F.FileSystem.directory c.args.file_system.now)) c.in-Some.is c.requires.goes in
+    let u = subst (λ (f : Option NewFiles). MayGoOnWith f c.args.store.now.pipes (tables_of c.args.tables.now) (known_groups c.args.groups.now) (g.F.FileSystem.directory c.args.store.now.file_system)) c.in-Some.is c.requires.goes in
     rw c.in-Some.is u.within
 
 pub returns-in-Some-clause-behind : goal.returns-in-Some-clause-behind
 returns-in-Some-clause-behind g c =
-    let u = subst (λ (f : Option NewFiles). MayGoOnWith f c.args.pipes.now (tables_of c.args.tables.now) (known_groups c.args.groups.now) (g.F.FileSystem.directory c.args.file_system.now)) c.in-Some.is c.requires.goes in
+    let u = subst (λ (f : Option NewFiles). MayGoOnWith f c.args.store.now.pipes (tables_of c.args.tables.now) (known_groups c.args.groups.now) (g.F.FileSystem.directory c.args.store.now.file_system)) c.in-Some.is c.requires.goes in
     rw c.in-Some.is u.behind
 
 pub returns-in-Some-clause-above : goal.returns-in-Some-clause-above
 returns-in-Some-clause-above g c =
-    let u = subst (λ (f : Option NewFiles). MayGoOnWith f c.args.pipes.now (tables_of c.args.tables.now) (known_groups c.args.groups.now) (g.F.FileSystem.directory c.args.file_system.now)) c.in-Some.is c.requires.goes in
+    let u = subst (λ (f : Option NewFiles). MayGoOnWith f c.args.store.now.pipes (tables_of c.args.tables.now) (known_groups c.args.groups.now) (g.F.FileSystem.directory c.args.store.now.file_system)) c.in-Some.is c.requires.goes in
     rw c.in-Some.is u.above
 
 pub returns-in-Some-clause-now : goal.returns-in-Some-clause-now
 returns-in-Some-clause-now g c =
-    let d = c.args.pipes.now in
+    let d = c.args.store.now.pipes in
     let t = tables_of c.args.tables.now in
     let met = known_groups c.args.groups.now in
-    let n = g.F.FileSystem.directory c.args.file_system.now in
+    let n = g.F.FileSystem.directory c.args.store.now.file_system in
     let u = subst (λ (f : Option NewFiles). MayGoOnWith f d t met n) c.in-Some.is c.requires.goes in
     rw c.in-Some.is (λ owed v held. under_way_renewed c.in-Some.files.first (ids_bound c.in-Some.files.groups.ids) d t owed met n v u held)
 
@@ -50,7 +50,7 @@ returns-in-Some-clause-rotates g c = record {
   folders = λ queue. refl;
   now = λ i v held. held;
   side = c.requires.side;
-  any_moment = moves_none (λ i v held. here_kept (log_by c.args.pipes.now i (g.F.FileSystem.directory c.args.file_system.now)) v held);
+  any_moment = moves_none (λ i v held. here_kept (log_by c.args.store.now.pipes i (g.F.FileSystem.directory c.args.store.now.file_system)) v held);
   cause = tt;
 }
 
@@ -73,8 +73,8 @@ returns-in-None-clause-above g c = rw c.in-None.is (omega arith)
 
 pub returns-in-None-clause-now : goal.returns-in-None-clause-now
 returns-in-None-clause-now g c =
-    let d' = c.begin_files.new.pipes in
+    let d' = c.begin_files.new.store.pipes in
     let t = tables_of c.args.tables.now in
     let met = known_groups c.args.groups.now in
-    let n' = g.F.FileSystem.directory c.begin_files.new.file_system in
+    let n' = g.F.FileSystem.directory c.begin_files.new.store.file_system in
     rw c.in-None.is (both_ok c.begin_files.result _ _ _ (λ begins last owed v held. subst (λ (k : ℕ). IsLog (renewed_log d' t owed met (renewal_at k met.bound met) n') v) last (begins t owed met v refl held)) c.begin_files.ensures.now c.begin_files.ensures.last)

@@ -23,7 +23,7 @@ returns-then-is_last-clause-goes g c = if_ok c.end_renewal.result _ (λ not. abs
 
 pub returns-then-is_last-clause-dropped : goal.returns-then-is_last-clause-dropped
 returns-then-is_last-clause-dropped g c =
-    both_ok c.end_renewal.result _ _ _ (λ span kept last low. kept_of c.args.first c.args.groups.now.together c.args.tables.now c.args.pipes.now.rewrite c.end_renewal.new.pipes.rewrite span (λ not. ap (λ (d : DualState). d.rewrite.first) (kept not)) low) c.end_renewal.ensures.span c.end_renewal.ensures.kept
+    both_ok c.end_renewal.result _ _ _ (λ span kept last low. kept_of c.args.first c.args.groups.now.together c.args.tables.now c.args.store.now.pipes.rewrite c.end_renewal.new.store.pipes.rewrite span (λ not. ap (λ (d : DualState). d.rewrite.first) (kept not)) low) c.end_renewal.ensures.span c.end_renewal.ensures.kept
 
 pub returns-then-is_last-clause-span : goal.returns-then-is_last-clause-span
 returns-then-is_last-clause-span g c = on_ok_weaker c.end_renewal.result (λ span last. span) c.end_renewal.ensures.span
@@ -36,7 +36,7 @@ returns-in_err-sync_rewrite-clause-any_moment g c = moves_weaker (λ n at owed r
 pub returns-in_err-sync_rewrite-clause-cause : goal.returns-in_err-sync_rewrite-clause-cause
 returns-in_err-sync_rewrite-clause-cause g c =
     let p = err_from_is_err_and c.from_residual.result c.from_residual.ensures.1 in
-    rw (p.1, p.2) (sync_refused c.args.pipes.now c.sync_rewrite.new.pipes (g.F.FileSystem.directory c.sync_rewrite.new.file_system) (g.F.FileSystem.refusals_of c.args.file_system.now) (g.F.FileSystem.refusals_of c.sync_rewrite.new.file_system) (λ _. ⊥) c.in_err-sync_rewrite.field-0.0 c.in_err-sync_rewrite.ensures.cause)
+    rw (p.1, p.2) (sync_refused c.args.store.now.pipes c.sync_rewrite.new.store.pipes (g.F.FileSystem.directory c.sync_rewrite.new.store.file_system) (g.F.FileSystem.refusals_of c.args.store.now.file_system) (g.F.FileSystem.refusals_of c.sync_rewrite.new.store.file_system) (λ _. ⊥) c.in_err-sync_rewrite.field-0.0 c.in_err-sync_rewrite.ensures.cause)
 
 pub returns-in_err-sync_rewrite-clause-front : goal.returns-in_err-sync_rewrite-clause-front
 returns-in_err-sync_rewrite-clause-front g c =
@@ -50,10 +50,10 @@ returns-in_err-sync_rewrite-clause-first g c =
 -- It goes on.
 
 pub returns-clause-now : goal.returns-clause-now
-returns-clause-now g c = λ owed r v is same held. ends_synced c.args.pipes.now c.sync_rewrite.new.pipes (g.F.FileSystem.directory c.args.file_system.now) (g.F.FileSystem.directory c.sync_rewrite.new.file_system) (tables_of c.args.tables.now) (known_groups c.args.groups.now) c.args.first c.in_ok-sync_rewrite.ensures.now r owed v held
+returns-clause-now g c = λ owed r v is same held. ends_synced c.args.store.now.pipes c.sync_rewrite.new.store.pipes (g.F.FileSystem.directory c.args.store.now.file_system) (g.F.FileSystem.directory c.sync_rewrite.new.store.file_system) (tables_of c.args.tables.now) (known_groups c.args.groups.now) c.args.first c.in_ok-sync_rewrite.ensures.now r owed v held
 
 pub returns-clause-goes : goal.returns-clause-goes
-returns-clause-goes g c = λ not i v held. synced_log (log_by c.sync_rewrite.new.pipes i (g.F.FileSystem.directory c.sync_rewrite.new.file_system)) v (c.in_ok-sync_rewrite.ensures.now i v held)
+returns-clause-goes g c = λ not i v held. synced_log (log_by c.sync_rewrite.new.store.pipes i (g.F.FileSystem.directory c.sync_rewrite.new.store.file_system)) v (c.in_ok-sync_rewrite.ensures.now i v held)
 
 pub returns-clause-any_moment : goal.returns-clause-any_moment
 returns-clause-any_moment g c = moves_weaker (λ n at owed r v is same held. at (index_of (tables_of c.args.tables.now) owed (known_groups c.args.groups.now) (Some r)) v held) c.sync_rewrite.ensures.any_moment

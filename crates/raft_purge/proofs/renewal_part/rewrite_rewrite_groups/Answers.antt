@@ -50,38 +50,38 @@ pub returns-in_err-first-clause-purges : goal.returns-in_err-first-clause-purges
 returns-in_err-first-clause-purges g c =
     let p = err_from_is_err_and c.from_residual.result c.from_residual.ensures.1 in
     rw (p.1, p.2) (record {
-      log = still_err (still_step {T = ℕ} (Err c.in_err-first.field-0.0) (by_marks (tables_of c.args.tables.now) (known_groups c.args.groups.now)) c.in_err-first.ensures.rotates.now c.in_err-first.ensures.rotates.side c.go_on.ensures.rotates.any_moment c.go_on.ensures.found);
+      log = still_err (still_step {T = ℕ} (Err c.in_err-first.field-0.0) (by_marks (tables_of c.args.log.now.tables) (known_groups c.args.log.now.groups)) c.in_err-first.ensures.rotates.now c.in_err-first.ensures.rotates.side c.go_on.ensures.rotates.any_moment c.go_on.ensures.found);
       value = tt;
       front = fails_by ℕ c.in_err-first.field-0.0 _ c.go_on.ensures.rotates.first;
       cut = tt;
       holds =
-          let d = c.args.pipes.now in
-          let d1 = c.go_on.new.pipes in
-          let n = g.F.FileSystem.directory c.args.file_system.now in
-          let n1 = g.F.FileSystem.directory c.go_on.new.file_system in
-          let t = tables_of c.args.tables.now in
-          let met = known_groups c.args.groups.now in
-          err_map c.in_err-first.field-0.0 (KeepsEachLog d d1 n n1) _ (λ keeps. ∥∥₁_elim c.requires.some (hlevel props) (λ x. rest_log (log_of d t x.0 met n) (log_of d1 t x.0 met n1) c.args.cache.now (keeps (index_of t x.0 met None)) x.1 x.2 c.requires.holds)) c.in_err-first.ensures.rotates.now;
+          let d = c.args.log.now.store.pipes in
+          let d1 = c.go_on.new.store.pipes in
+          let n = g.F.FileSystem.directory c.args.log.now.store.file_system in
+          let n1 = g.F.FileSystem.directory c.go_on.new.store.file_system in
+          let t = tables_of c.args.log.now.tables in
+          let met = known_groups c.args.log.now.groups in
+          err_map c.in_err-first.field-0.0 (KeepsEachLog d d1 n n1) _ (λ keeps. ∥∥₁_elim c.requires.some (hlevel props) (λ x. rest_log (log_of d t x.0 met n) (log_of d1 t x.0 met n1) c.args.log.now.cache (keeps (index_of t x.0 met None)) x.1 x.2 c.requires.holds)) c.in_err-first.ensures.rotates.now;
       cause =
-          let d = c.args.pipes.now in
-          let t = tables_of c.args.tables.now in
-          let n = g.F.FileSystem.directory c.args.file_system.now in
-          let met = known_groups c.args.groups.now in
+          let d = c.args.log.now.store.pipes in
+          let t = tables_of c.args.log.now.tables in
+          let n = g.F.FileSystem.directory c.args.log.now.store.file_system in
+          let met = known_groups c.args.log.now.groups in
           let P : LogValue → Type 0 = λ v. (owed : Owed) × IsLog (log_of d t owed met n) v in
-          let r0 = g.F.FileSystem.refusals_of c.args.file_system.now in
-          let r1 = g.F.FileSystem.refusals_of c.go_on.new.file_system in
-          let U : Fault → Type 0 = λ f. HasNoId c.args.groups.now f ⊎ IsUnfitWhere P f in
-          plain_refusal d c.go_on.new.pipes (g.F.FileSystem.directory c.go_on.new.file_system) r0 r1 (λ _. ⊥) U c.in_err-first.field-0.0 (λ f none. absurd none) c.in_err-first.ensures.rotates.cause;
+          let r0 = g.F.FileSystem.refusals_of c.args.log.now.store.file_system in
+          let r1 = g.F.FileSystem.refusals_of c.go_on.new.store.file_system in
+          let U : Fault → Type 0 = λ f. HasNoId c.args.log.now.groups f ⊎ IsUnfitWhere P f in
+          plain_refusal d c.go_on.new.store.pipes (g.F.FileSystem.directory c.go_on.new.store.file_system) r0 r1 (λ _. ⊥) U c.in_err-first.field-0.0 (λ f none. absurd none) c.in_err-first.ensures.rotates.cause;
     })
 
 -- the moments up to the rewriting's end
-renewing : (g : Over) (c : After-rewrite_some g) → MovesBy g.F.FileSystem.directory g.F.FileSystem.moments g.F.FileSystem.refusals_of (λ before k. (owed : Owed) → KeepsLogAt (log_of c.args.pipes.now (tables_of c.args.tables.now) owed (known_groups c.args.groups.now) before) k) c.args.file_system.now c.rewrite_some.new.file_system
+renewing : (g : Over) (c : After-rewrite_some g) → MovesBy g.F.FileSystem.directory g.F.FileSystem.moments g.F.FileSystem.refusals_of (λ before k. (owed : Owed) → KeepsLogAt (log_of c.args.log.now.store.pipes (tables_of c.args.log.now.tables) owed (known_groups c.args.log.now.groups) before) k) c.args.log.now.store.file_system c.rewrite_some.new.log.store.file_system
 renewing g c =
-    let t = tables_of c.args.tables.now in
-    let met = known_groups c.args.groups.now in
-    let n0 = g.F.FileSystem.directory c.args.file_system.now in
-    let n1 = g.F.FileSystem.directory c.go_on.new.file_system in
-    let r = renewal_at (first_new c.args.part.now.files c.args.pipes.now.rewrite) (bound_new c.args.part.now.files c.args.groups.now) met in
+    let t = tables_of c.args.log.now.tables in
+    let met = known_groups c.args.log.now.groups in
+    let n0 = g.F.FileSystem.directory c.args.log.now.store.file_system in
+    let n1 = g.F.FileSystem.directory c.go_on.new.store.file_system in
+    let r = renewal_at (first_new c.args.part.now.files c.args.log.now.store.pipes.rewrite) (bound_new c.args.part.now.files c.args.log.now.groups) met in
     let goes : GoesOnRenewal met r = record { none_begun = refl; together = refl; above = c.go_on.ensures.above } in
     moves_then (moves_weaker (λ k at owed. at (by_marks t met owed)) c.go_on.ensures.rotates.any_moment)
     (λ k at owed v held. recovers_then v n0 n1 k (c.go_on.ensures.rotates.any_moment.throughout.here (by_marks t met owed) v held) (at owed r v goes (c.in_ok-first.ensures.now owed v held))) c.rewrite_some.ensures.any_moment
@@ -92,8 +92,8 @@ found g c = (c.rewrite_some.ensures.rewrites.keeps.found.0 ∙ c.go_on.ensures.f
 pub returns-in_err-rewrite_some-clause-purges : goal.returns-in_err-rewrite_some-clause-purges
 returns-in_err-rewrite_some-clause-purges g c =
     let p = err_from_is_err_and c.from_residual-in_err-rewrite_some.result c.from_residual-in_err-rewrite_some.ensures.1 in
-    let met = known_groups c.args.groups.now in
-    let r = renewal_at (first_new c.args.part.now.files c.args.pipes.now.rewrite) (bound_new c.args.part.now.files c.args.groups.now) met in
+    let met = known_groups c.args.log.now.groups in
+    let r = renewal_at (first_new c.args.part.now.files c.args.log.now.store.pipes.rewrite) (bound_new c.args.part.now.files c.args.log.now.groups) met in
     let goes : GoesOnRenewal met r = record { none_begun = refl; together = refl; above = c.go_on.ensures.above } in
     rw (p.1, p.2) (record {
       log =
@@ -110,31 +110,31 @@ returns-in_err-rewrite_some-clause-purges g c =
       cut = tt;
       holds = err_map c.in_err-rewrite_some.field-0.0 _ _ (λ rest. rest) c.in_err-rewrite_some.ensures.rewrites.holds;
       cause =
-          let d = c.args.pipes.now in
-          let t = tables_of c.args.tables.now in
-          let n = g.F.FileSystem.directory c.args.file_system.now in
+          let d = c.args.log.now.store.pipes in
+          let t = tables_of c.args.log.now.tables in
+          let n = g.F.FileSystem.directory c.args.log.now.store.file_system in
           let P : LogValue → Type 0 = λ v. (owed : Owed) × IsLog (log_of d t owed met n) v in
-          let r0 = g.F.FileSystem.refusals_of c.args.file_system.now in
-          let r1 = g.F.FileSystem.refusals_of c.go_on.new.file_system in
-          let Q = MayRenewLog c.go_on.new.pipes t met (g.F.FileSystem.directory c.go_on.new.file_system) in
-          let U : Fault → Type 0 = λ f. HasNoId c.rewrite_some.new.groups f ⊎ IsUnfitWhere Q f in
-          let U' : Fault → Type 0 = λ f. HasNoId c.rewrite_some.new.groups f ⊎ IsUnfitWhere P f in
+          let r0 = g.F.FileSystem.refusals_of c.args.log.now.store.file_system in
+          let r1 = g.F.FileSystem.refusals_of c.go_on.new.store.file_system in
+          let Q = MayRenewLog c.go_on.new.store.pipes t met (g.F.FileSystem.directory c.go_on.new.store.file_system) in
+          let U : Fault → Type 0 = λ f. HasNoId c.rewrite_some.new.log.groups f ⊎ IsUnfitWhere Q f in
+          let U' : Fault → Type 0 = λ f. HasNoId c.rewrite_some.new.log.groups f ⊎ IsUnfitWhere P f in
           let weaker : (f : Fault) → U f → U' f = λ f h. elim h [ inl none ↦ inl none | inr unfit ↦ inr (λ v held. unfit v (held.0, r, goes, c.in_ok-first.ensures.now held.0 v held.1)) ] in
-          atomic_since d c.go_on.new.pipes c.rewrite_some.new.pipes (g.F.FileSystem.directory c.rewrite_some.new.file_system) r0 r1 (g.F.FileSystem.refusals_of c.rewrite_some.new.file_system) U U' c.in_err-rewrite_some.field-0.0 c.in_ok-first.ensures.rotates.folders c.go_on.ensures.rotates.any_moment.no_fewer weaker c.in_err-rewrite_some.ensures.cause;
+          atomic_since d c.go_on.new.store.pipes c.rewrite_some.new.log.store.pipes (g.F.FileSystem.directory c.rewrite_some.new.log.store.file_system) r0 r1 (g.F.FileSystem.refusals_of c.rewrite_some.new.log.store.file_system) U U' c.in_err-rewrite_some.field-0.0 c.in_ok-first.ensures.rotates.folders c.go_on.ensures.rotates.any_moment.no_fewer weaker c.in_err-rewrite_some.ensures.cause;
     })
 
 pub returns-clause-purges : goal.returns-clause-purges
 returns-clause-purges g c =
-    let met = known_groups c.args.groups.now in
-    let r = renewal_at (first_new c.args.part.now.files c.args.pipes.now.rewrite) (bound_new c.args.part.now.files c.args.groups.now) met in
+    let met = known_groups c.args.log.now.groups in
+    let r = renewal_at (first_new c.args.part.now.files c.args.log.now.store.pipes.rewrite) (bound_new c.args.part.now.files c.args.log.now.groups) met in
     let goes : GoesOnRenewal met r = record { none_begun = refl; together = refl; above = c.go_on.ensures.above } in
     let is = c.in_ok-first.ensures.value in
     let together = c.rewrite_some.ensures.together in
     record {
       log =
           let at = (goal.at.returns-clause-purges g c).After-rewrite_some in
-          let n0 = g.F.FileSystem.directory c.args.file_system.now in
-          let n2 = g.F.FileSystem.directory c.rewrite_some.new.file_system in
+          let n0 = g.F.FileSystem.directory c.args.log.now.store.file_system in
+          let n2 = g.F.FileSystem.directory c.rewrite_some.new.log.store.file_system in
           let renews = c.in_ok-rewrite_some.ensures.ok in
           record {
             now = if_stands_map c.leave.result _ _ (λ ends owed v held. ends owed r v (sym is) (sym together) (renews owed r v goes (c.in_ok-first.ensures.now owed v held))) c.leave.ensures.now;
@@ -151,35 +151,35 @@ returns-clause-purges g c =
           if_fails_map c.leave.result _ _ (λ same. ap (λ (d : DualState). d.rewrite.first) same ∙ first) c.leave.ensures.front;
       cut = if_ok c.leave.result _ (λ rests are. c.in_ok-rewrite_some.ensures.rewrites.cut rests (c.in_ok-first.ensures.cut rests are));
       holds =
-          let d2 = c.rewrite_some.new.pipes in
-          let n2 = g.F.FileSystem.directory c.rewrite_some.new.file_system in
-          let n3 = g.F.FileSystem.directory c.leave.new.file_system in
-          let t2 = tables_of c.rewrite_some.new.tables in
-          let met2 = known_groups c.rewrite_some.new.groups in
-          let kept = c.rewrite_some.new.cache in
+          let d2 = c.rewrite_some.new.log.store.pipes in
+          let n2 = g.F.FileSystem.directory c.rewrite_some.new.log.store.file_system in
+          let n3 = g.F.FileSystem.directory c.leave.new.store.file_system in
+          let t2 = tables_of c.rewrite_some.new.log.tables in
+          let met2 = known_groups c.rewrite_some.new.log.groups in
+          let kept = c.rewrite_some.new.log.cache in
           let written = c.in_ok-rewrite_some.ensures.ok in
-          if_stands_map c.leave.result (EndsRenewal c.in_ok-first.first t2 met2 d2 c.leave.new.pipes n2 n3) (HoldsRestIn c.leave.new.pipes n3 kept) (λ ends. ∥∥₁_elim c.requires.some (hlevel props) (λ x.
+          if_stands_map c.leave.result (EndsRenewal c.in_ok-first.first t2 met2 d2 c.leave.new.store.pipes n2 n3) (HoldsRestIn c.leave.new.store.pipes n3 kept) (λ ends. ∥∥₁_elim c.requires.some (hlevel props) (λ x.
           let held = written x.0 r x.1 goes (c.in_ok-first.ensures.now x.0 x.1 x.2) in
           (ends x.0 r (reading x.1 kept) (sym is) (sym together) (log_reading (renewed_log d2 t2 x.0 met2 r n2) x.1 kept c.in_ok-rewrite_some.ensures.rewrites.holds held)).pipes.read)) c.leave.ensures.now;
       cause =
-          let d = c.args.pipes.now in
-          let t = tables_of c.args.tables.now in
-          let n = g.F.FileSystem.directory c.args.file_system.now in
+          let d = c.args.log.now.store.pipes in
+          let t = tables_of c.args.log.now.tables in
+          let n = g.F.FileSystem.directory c.args.log.now.store.file_system in
           let P : LogValue → Type 0 = λ v. (owed : Owed) × IsLog (log_of d t owed met n) v in
-          let r0 = g.F.FileSystem.refusals_of c.args.file_system.now in
-          let r1 = g.F.FileSystem.refusals_of c.go_on.new.file_system in
-          let r2 = g.F.FileSystem.refusals_of c.rewrite_some.new.file_system in
-          let r3 = g.F.FileSystem.refusals_of c.leave.new.file_system in
-          let U : Fault → Type 0 = λ f. HasNoId c.rewrite_some.new.groups f ⊎ IsUnfitWhere P f in
-          each_plain_refusal c.leave.result d c.leave.new.pipes (g.F.FileSystem.directory c.leave.new.file_system) r0 r3 U U (λ f h. h)
-          (each_refusal_since c.leave.result d c.rewrite_some.new.pipes c.leave.new.pipes (g.F.FileSystem.directory c.leave.new.file_system) r0 r2 r3 (λ _. ⊥) U (folders_then d c.go_on.new.pipes c.rewrite_some.new.pipes c.in_ok-first.ensures.rotates.folders c.in_ok-rewrite_some.ensures.rewrites.keeps.folders) (no_fewer_then r0 r1 r2 c.go_on.ensures.rotates.any_moment.no_fewer c.rewrite_some.ensures.any_moment.no_fewer)
+          let r0 = g.F.FileSystem.refusals_of c.args.log.now.store.file_system in
+          let r1 = g.F.FileSystem.refusals_of c.go_on.new.store.file_system in
+          let r2 = g.F.FileSystem.refusals_of c.rewrite_some.new.log.store.file_system in
+          let r3 = g.F.FileSystem.refusals_of c.leave.new.store.file_system in
+          let U : Fault → Type 0 = λ f. HasNoId c.rewrite_some.new.log.groups f ⊎ IsUnfitWhere P f in
+          each_plain_refusal c.leave.result d c.leave.new.store.pipes (g.F.FileSystem.directory c.leave.new.store.file_system) r0 r3 U U (λ f h. h)
+          (each_refusal_since c.leave.result d c.rewrite_some.new.log.store.pipes c.leave.new.store.pipes (g.F.FileSystem.directory c.leave.new.store.file_system) r0 r2 r3 (λ _. ⊥) U (folders_then d c.go_on.new.store.pipes c.rewrite_some.new.log.store.pipes c.in_ok-first.ensures.rotates.folders c.in_ok-rewrite_some.ensures.rewrites.keeps.folders) (no_fewer_then r0 r1 r2 c.go_on.ensures.rotates.any_moment.no_fewer c.rewrite_some.ensures.any_moment.no_fewer)
           (λ f none. absurd none) c.leave.ensures.cause);
     }
 
 pub rewrite_some-requires-clause-some : goal.rewrite_some-requires-clause-some
 rewrite_some-requires-clause-some g c =
-    let met = known_groups c.args.groups.now in
-    let r = renewal_at (first_new c.args.part.now.files c.args.pipes.now.rewrite) (bound_new c.args.part.now.files c.args.groups.now) met in
+    let met = known_groups c.args.log.now.groups in
+    let r = renewal_at (first_new c.args.part.now.files c.args.log.now.store.pipes.rewrite) (bound_new c.args.part.now.files c.args.log.now.groups) met in
     let goes : GoesOnRenewal met r = record { none_begun = refl; together = refl; above = c.go_on.ensures.above } in
     λ κs within. ∥∥₁_map c.requires.some (λ x. (x.0, r, x.1, goes, c.in_ok-first.ensures.now x.0 x.1 x.2))
 
@@ -189,18 +189,18 @@ going_rest first bound d d1 t met n n1 kept some goes rest =
 
 pub rewrite_some-requires-clause-holds : goal.rewrite_some-requires-clause-holds
 rewrite_some-requires-clause-holds g c = λ κs within.
-    going_rest (first_new c.args.part.now.files c.args.pipes.now.rewrite) (bound_new c.args.part.now.files c.args.groups.now) c.args.pipes.now c.go_on.new.pipes (tables_of c.args.tables.now) (known_groups c.args.groups.now) (g.F.FileSystem.directory c.args.file_system.now) (g.F.FileSystem.directory c.go_on.new.file_system) c.args.cache.now c.requires.some c.in_ok-first.ensures.now c.requires.holds
+    going_rest (first_new c.args.part.now.files c.args.log.now.store.pipes.rewrite) (bound_new c.args.part.now.files c.args.log.now.groups) c.args.log.now.store.pipes c.go_on.new.store.pipes (tables_of c.args.log.now.tables) (known_groups c.args.log.now.groups) (g.F.FileSystem.directory c.args.log.now.store.file_system) (g.F.FileSystem.directory c.go_on.new.store.file_system) c.args.log.now.cache c.requires.some c.in_ok-first.ensures.now c.requires.holds
 
 pub rewrite_some-requires-clause-ascending : goal.rewrite_some-requires-clause-ascending
 rewrite_some-requires-clause-ascending g c = λ κs within. subst (λ (gs : List ℕ). IsStrictlySortedBy nat_cmp gs) (sym c.deref.ensures.value) c.args.part.now.ascending
 
 pub leave-requires-clause-within : goal.leave-requires-clause-within
 leave-requires-clause-within g c =
-    let met = known_groups c.args.groups.now in
-    let met' = known_groups c.rewrite_some.new.groups in
-    let r = renewal_at (first_new c.args.part.now.files c.args.pipes.now.rewrite) (bound_new c.args.part.now.files c.args.groups.now) met in
+    let met = known_groups c.args.log.now.groups in
+    let met' = known_groups c.rewrite_some.new.log.groups in
+    let r = renewal_at (first_new c.args.part.now.files c.args.log.now.store.pipes.rewrite) (bound_new c.args.part.now.files c.args.log.now.groups) met in
     let goes : GoesOnRenewal met r = record { none_begun = refl; together = refl; above = c.go_on.ensures.above } in
-    let low : r.first ≤ last_seq c.rewrite_some.new.pipes.rewrite = ∥∥₁_elim c.requires.some (hlevel props) (λ x. renewed_within c.rewrite_some.new.pipes (tables_of c.rewrite_some.new.tables) x.0 met' r (g.F.FileSystem.directory c.rewrite_some.new.file_system) x.1 (c.in_ok-rewrite_some.ensures.ok x.0 r x.1 goes (c.in_ok-first.ensures.now x.0 x.1 x.2))) in
+    let low : r.first ≤ last_seq c.rewrite_some.new.log.store.pipes.rewrite = ∥∥₁_elim c.requires.some (hlevel props) (λ x. renewed_within c.rewrite_some.new.log.store.pipes (tables_of c.rewrite_some.new.log.tables) x.0 met' r (g.F.FileSystem.directory c.rewrite_some.new.log.store.file_system) x.1 (c.in_ok-rewrite_some.ensures.ok x.0 r x.1 goes (c.in_ok-first.ensures.now x.0 x.1 x.2))) in
     let is = c.in_ok-first.ensures.value in
     λ κs within. omega (arith, low, is)
 
@@ -208,8 +208,8 @@ leave-requires-clause-within g c =
 
 pub returns-clause-emptied : goal.returns-clause-emptied
 returns-clause-emptied g c =
-    let t' = tables_of c.rewrite_some.new.tables in
-    let first = first_new c.args.part.now.files c.args.pipes.now.rewrite in
+    let t' = tables_of c.rewrite_some.new.log.tables in
+    let first = first_new c.args.part.now.files c.args.log.now.store.pipes.rewrite in
     let low = c.in_ok-first.ensures.within in
     let each = subst (λ (gs : List ℕ). Each (λ k. IsAllFrom first (or_empty (t' k))) gs) c.deref.ensures.value (c.in_ok-rewrite_some.ensures.emptied first low) in
     if_ok c.leave.result _ (λ group h. elim h [
@@ -219,15 +219,15 @@ returns-clause-emptied g c =
 
 pub returns-clause-goes : goal.returns-clause-goes
 returns-clause-goes g c =
-    let met = known_groups c.args.groups.now in
-    let met' = known_groups c.rewrite_some.new.groups in
-    let first = first_new c.args.part.now.files c.args.pipes.now.rewrite in
-    let bound = bound_new c.args.part.now.files c.args.groups.now in
+    let met = known_groups c.args.log.now.groups in
+    let met' = known_groups c.rewrite_some.new.log.groups in
+    let first = first_new c.args.part.now.files c.args.log.now.store.pipes.rewrite in
+    let bound = bound_new c.args.part.now.files c.args.log.now.groups in
     let r = renewal_at first bound met in
     let goes : GoesOnRenewal met r = record { none_begun = refl; together = refl; above = c.go_on.ensures.above } in
-    let d' = c.leave.new.pipes in
-    let t' = tables_of c.rewrite_some.new.tables in
-    let n' = g.F.FileSystem.directory c.leave.new.file_system in
+    let d' = c.leave.new.store.pipes in
+    let t' = tables_of c.rewrite_some.new.log.tables in
+    let n' = g.F.FileSystem.directory c.leave.new.store.file_system in
     let above = c.go_on.ensures.above in
     let ids = c.rewrite_some.ensures.ids in
     let goes' : GoesOnRenewal met' r = record { none_begun = refl; together = sym c.rewrite_some.ensures.together; above = omega (arith, above, ids) } in
@@ -249,11 +249,11 @@ returns-clause-dropped g c =
     let first = c.in_ok-rewrite_some.ensures.rewrites.keeps.first ∙ c.go_on.ensures.rotates.first in
     let least = c.go_on.ensures.behind in
     let is = c.in_ok-first.ensures.value in
-    on_ok_weaker c.leave.result (λ dropped last. dropped last (omega (arith, first, least, is)) ∙ kept_same c.in_ok-first.first (first_new c.args.part.now.files c.args.pipes.now.rewrite) c.rewrite_some.new.groups.together c.args.groups.now.together c.rewrite_some.new.tables c.rewrite_some.new.pipes.rewrite c.args.pipes.now.rewrite is c.rewrite_some.ensures.together first) c.leave.ensures.dropped
+    on_ok_weaker c.leave.result (λ dropped last. dropped last (omega (arith, first, least, is)) ∙ kept_same c.in_ok-first.first (first_new c.args.part.now.files c.args.log.now.store.pipes.rewrite) c.rewrite_some.new.log.groups.together c.args.log.now.groups.together c.rewrite_some.new.log.tables c.rewrite_some.new.log.store.pipes.rewrite c.args.log.now.store.pipes.rewrite is c.rewrite_some.ensures.together first) c.leave.ensures.dropped
 
 pub returns-clause-span : goal.returns-clause-span
 returns-clause-span g c =
-    let t' = tables_of c.rewrite_some.new.tables in
+    let t' = tables_of c.rewrite_some.new.log.tables in
     let first = c.in_ok-rewrite_some.ensures.rewrites.keeps.first ∙ c.go_on.ensures.rotates.first in
     let least = c.go_on.ensures.behind in
     let is = c.in_ok-first.ensures.value in
@@ -269,7 +269,7 @@ returns-in_err-rewrite_some-clause-first g c =
 pub returns-clause-first : goal.returns-clause-first
 returns-clause-first g c =
     let first = c.rewrite_some.ensures.rewrites.keeps.first ∙ c.go_on.ensures.rotates.first in
-    on_err_of c.leave.result _ (dropped_some_then c.in_ok-first.first (first_new c.args.part.now.files c.args.pipes.now.rewrite) c.rewrite_some.new.tables c.args.pipes.now.rewrite c.rewrite_some.new.pipes.rewrite c.leave.new.pipes.rewrite c.in_ok-first.ensures.value first c.leave.ensures.first)
+    on_err_of c.leave.result _ (dropped_some_then c.in_ok-first.first (first_new c.args.part.now.files c.args.log.now.store.pipes.rewrite) c.rewrite_some.new.log.tables c.args.log.now.store.pipes.rewrite c.rewrite_some.new.log.store.pipes.rewrite c.leave.new.store.pipes.rewrite c.in_ok-first.ensures.value first c.leave.ensures.first)
 
 -- The Append queue's pipe is the same.
 
@@ -290,6 +290,6 @@ returns-clause-only g c = if_ok c.leave.result _ c.in_ok-rewrite_some.ensures.on
 
 pub returns-clause-folders : goal.returns-clause-folders
 returns-clause-folders g c =
-    let d = c.args.pipes.now in
-    let mid = c.rewrite_some.new.pipes in
-    on_ok_weaker c.leave.result (folders_then d mid c.leave.new.pipes (folders_then d c.go_on.new.pipes mid c.in_ok-first.ensures.rotates.folders c.in_ok-rewrite_some.ensures.rewrites.keeps.folders)) c.leave.ensures.folders
+    let d = c.args.log.now.store.pipes in
+    let mid = c.rewrite_some.new.log.store.pipes in
+    on_ok_weaker c.leave.result (folders_then d mid c.leave.new.store.pipes (folders_then d c.go_on.new.store.pipes mid c.in_ok-first.ensures.rotates.folders c.in_ok-rewrite_some.ensures.rewrites.keeps.folders)) c.leave.ensures.folders

@@ -47,96 +47,96 @@ use Rattle.raft_purge.proofs.renewal_part.rewrite_some.Goals as goal
 
 pub returns-in_err-blocks-clause-err : goal.returns-in_err-blocks-clause-err
 returns-in_err-blocks-clause-err g c =
-    let d = c.args.pipes.now in
-    let t = tables_of c.args.tables.now in
-    let n = g.F.FileSystem.directory c.args.file_system.now in
-    let met = known_groups c.args.groups.now in
+    let d = c.args.log.now.store.pipes in
+    let t = tables_of c.args.log.now.tables in
+    let n = g.F.FileSystem.directory c.args.log.now.store.file_system in
+    let met = known_groups c.args.log.now.groups in
     let p = err_from_is_err_and c.from_residual.result c.from_residual.ensures.1 in
     rw (p.1, p.2) (λ owed r v goes held. renewal_ends d t owed met r n v held)
 
 pub returns-in_err-blocks-clause-any_moment : goal.returns-in_err-blocks-clause-any_moment
 returns-in_err-blocks-clause-any_moment g c =
-    let d = c.args.pipes.now in
-    let t = tables_of c.args.tables.now in
-    let n = g.F.FileSystem.directory c.args.file_system.now in
-    let met = known_groups c.args.groups.now in
+    let d = c.args.log.now.store.pipes in
+    let t = tables_of c.args.log.now.tables in
+    let n = g.F.FileSystem.directory c.args.log.now.store.file_system in
+    let met = known_groups c.args.log.now.groups in
     moves_none (λ owed r v goes held. here_kept (renewed_log d t owed met r n) v held)
 
 pub returns-in_err-blocks-clause-cause : goal.returns-in_err-blocks-clause-cause
 returns-in_err-blocks-clause-cause g c =
-    let r = g.F.FileSystem.refusals_of c.args.file_system.now in
+    let r = g.F.FileSystem.refusals_of c.args.log.now.store.file_system in
     let p = err_from_is_err_and c.from_residual.result c.from_residual.ensures.1 in
-    rw (p.1, p.2) (inl (memory_in c.args.pipes.now r r fault.Memory refl))
+    rw (p.1, p.2) (inl (memory_in c.args.log.now.store.pipes r r fault.Memory refl))
 
 -- The groups.
 
 pub rewrite_each_anew-requires-clause-holds : goal.rewrite_each_anew-requires-clause-holds
 rewrite_each_anew-requires-clause-holds g c =
-    let d = c.args.pipes.now in
-    let n = g.F.FileSystem.directory c.args.file_system.now in
-    λ κs within. subst (HoldsBlockIn d n) (sym (c.of_rewrite-rewriter.ensures.cache ∙ c.in_ok-blocks.ensures.value)) (held_rest d n c.args.cache.now (side_queue d n c.requires.side) c.requires.holds)
+    let d = c.args.log.now.store.pipes in
+    let n = g.F.FileSystem.directory c.args.log.now.store.file_system in
+    λ κs within. subst (HoldsBlockIn d n) (sym (c.of_rewrite-rewriter.ensures.cache ∙ c.in_ok-blocks.ensures.value)) (held_rest d n c.args.log.now.cache (side_queue d n c.requires.side) c.requires.holds)
 
 pub rewrite_each_anew-requires-clause-some : goal.rewrite_each_anew-requires-clause-some
 rewrite_each_anew-requires-clause-some g c =
-    let met = known_groups c.args.groups.now in
+    let met = known_groups c.args.log.now.groups in
     let list = c.args.list.now in
-    let s = gather_of c.of_rewrite-rewriter.result.rewriting.watermark c.args.pipes.now (tables_of c.args.tables.now) (g.F.FileSystem.directory c.args.file_system.now) c.of_rewrite-rewriter.result.rewriting.batch.items in
+    let s = gather_of c.of_rewrite-rewriter.result.rewriting.watermark c.args.log.now.store.pipes (tables_of c.args.log.now.tables) (g.F.FileSystem.directory c.args.log.now.store.file_system) c.of_rewrite-rewriter.result.rewriting.batch.items in
     λ κs within. ∥∥₁_map c.requires.some (λ x. let owed = x.0 in let r = x.1 in let v = x.2 in let goes = x.3 in let held = x.4 in (owed, r, v, (all_begin list s c.of_rewrite-rewriter.ensures.watermark c.of_rewrite-rewriter.ensures.batch owed met r v goes held)))
 
 pub returns-in_err-rewrite_each_anew-clause-err : goal.returns-in_err-rewrite_each_anew-clause-err
 returns-in_err-rewrite_each_anew-clause-err g c =
-    let d = c.args.pipes.now in
-    let t = tables_of c.args.tables.now in
-    let n = g.F.FileSystem.directory c.args.file_system.now in
-    let met = known_groups c.args.groups.now in
-    let met' = known_groups c.rewrite_each_anew.new.groups in
+    let d = c.args.log.now.store.pipes in
+    let t = tables_of c.args.log.now.tables in
+    let n = g.F.FileSystem.directory c.args.log.now.store.file_system in
+    let met = known_groups c.args.log.now.groups in
+    let met' = known_groups c.rewrite_each_anew.new.log.groups in
     let list = c.args.list.now in
-    let s = gather_of c.of_rewrite-rewriter.result.rewriting.watermark c.args.pipes.now (tables_of c.args.tables.now) (g.F.FileSystem.directory c.args.file_system.now) c.of_rewrite-rewriter.result.rewriting.batch.items in
-    let s1 = gather_of c.rewrite_each_anew.new.self.rewriting.watermark c.rewrite_each_anew.new.pipes (tables_of c.rewrite_each_anew.new.tables) (g.F.FileSystem.directory c.rewrite_each_anew.new.file_system) c.rewrite_each_anew.new.self.rewriting.batch.items in
+    let s = gather_of c.of_rewrite-rewriter.result.rewriting.watermark c.args.log.now.store.pipes (tables_of c.args.log.now.tables) (g.F.FileSystem.directory c.args.log.now.store.file_system) c.of_rewrite-rewriter.result.rewriting.batch.items in
+    let s1 = gather_of c.rewrite_each_anew.new.self.rewriting.watermark c.rewrite_each_anew.new.log.store.pipes (tables_of c.rewrite_each_anew.new.log.tables) (g.F.FileSystem.directory c.rewrite_each_anew.new.log.store.file_system) c.rewrite_each_anew.new.self.rewriting.batch.items in
     let p = err_from_is_err_and c.from_residual-in_err-rewrite_each_anew.result c.from_residual-in_err-rewrite_each_anew.ensures.1 in
     rw (p.1, p.2) (err_of (Unit {0}) (Unit {0}) c.in_err-rewrite_each_anew.field-0.0 (RenewsBy met met' (IsRenewed list s) (IsEnded s1)) (LeavesRenewal d s1.pipes t s1.tables met met' n s1.files) (λ ends owed r v goes held. ends owed r v (all_begin list s c.of_rewrite-rewriter.ensures.watermark c.of_rewrite-rewriter.ensures.batch owed met r v goes held)) c.in_err-rewrite_each_anew.ensures.err)
 
 pub returns-in_err-rewrite_each_anew-clause-any_moment : goal.returns-in_err-rewrite_each_anew-clause-any_moment
 returns-in_err-rewrite_each_anew-clause-any_moment g c =
-    let met = known_groups c.args.groups.now in
+    let met = known_groups c.args.log.now.groups in
     let list = c.args.list.now in
-    let s = gather_of c.of_rewrite-rewriter.result.rewriting.watermark c.args.pipes.now (tables_of c.args.tables.now) (g.F.FileSystem.directory c.args.file_system.now) c.of_rewrite-rewriter.result.rewriting.batch.items in
+    let s = gather_of c.of_rewrite-rewriter.result.rewriting.watermark c.args.log.now.store.pipes (tables_of c.args.log.now.tables) (g.F.FileSystem.directory c.args.log.now.store.file_system) c.of_rewrite-rewriter.result.rewriting.batch.items in
     moves_weaker (λ k at owed r v goes held. at owed r v (all_begin list s c.of_rewrite-rewriter.ensures.watermark c.of_rewrite-rewriter.ensures.batch owed met r v goes held)) c.rewrite_each_anew.ensures.any_moment
 
 -- What is gathered still.
 
 pub write_anew-written-requires-clause-some : goal.write_anew-written-requires-clause-some
 write_anew-written-requires-clause-some g c =
-    let met = known_groups c.args.groups.now in
-    let met' = known_groups c.rewrite_each_anew.new.groups in
+    let met = known_groups c.args.log.now.groups in
+    let met' = known_groups c.rewrite_each_anew.new.log.groups in
     let list = c.args.list.now in
-    let s = gather_of c.of_rewrite-rewriter.result.rewriting.watermark c.args.pipes.now (tables_of c.args.tables.now) (g.F.FileSystem.directory c.args.file_system.now) c.of_rewrite-rewriter.result.rewriting.batch.items in
-    let s1 = gather_of c.rewrite_each_anew.new.self.rewriting.watermark c.rewrite_each_anew.new.pipes (tables_of c.rewrite_each_anew.new.tables) (g.F.FileSystem.directory c.rewrite_each_anew.new.file_system) c.rewrite_each_anew.new.self.rewriting.batch.items in
+    let s = gather_of c.of_rewrite-rewriter.result.rewriting.watermark c.args.log.now.store.pipes (tables_of c.args.log.now.tables) (g.F.FileSystem.directory c.args.log.now.store.file_system) c.of_rewrite-rewriter.result.rewriting.batch.items in
+    let s1 = gather_of c.rewrite_each_anew.new.self.rewriting.watermark c.rewrite_each_anew.new.log.store.pipes (tables_of c.rewrite_each_anew.new.log.tables) (g.F.FileSystem.directory c.rewrite_each_anew.new.log.store.file_system) c.rewrite_each_anew.new.self.rewriting.batch.items in
     λ κs within. some_known met' (IsRenewed [] s1) (some_by met met' (IsRenewed list s) (IsRenewed [] s1) c.in_ok-rewrite_each_anew.ensures.ok (∥∥₁_map c.requires.some (λ x. let owed = x.0 in let r = x.1 in let v = x.2 in let goes = x.3 in let held = x.4 in (owed, r, v, (all_begin list s c.of_rewrite-rewriter.ensures.watermark c.of_rewrite-rewriter.ensures.batch owed met r v goes held)))))
 
 pub returns-clause-ok : goal.returns-clause-ok
 returns-clause-ok g c =
-    let met = known_groups c.args.groups.now in
-    let met' = known_groups c.rewrite_each_anew.new.groups in
+    let met = known_groups c.args.log.now.groups in
+    let met' = known_groups c.rewrite_each_anew.new.log.groups in
     let list = c.args.list.now in
-    let s = gather_of c.of_rewrite-rewriter.result.rewriting.watermark c.args.pipes.now (tables_of c.args.tables.now) (g.F.FileSystem.directory c.args.file_system.now) c.of_rewrite-rewriter.result.rewriting.batch.items in
-    on_ok_weaker c.write_anew-written.result (λ on owed r v goes held. (on [] owed met' r v (c.in_ok-rewrite_each_anew.ensures.ok owed r v (all_begin list s c.of_rewrite-rewriter.ensures.watermark c.of_rewrite-rewriter.ensures.batch owed met r v goes held))).log) c.write_anew-written.ensures.ok
+    let s = gather_of c.of_rewrite-rewriter.result.rewriting.watermark c.args.log.now.store.pipes (tables_of c.args.log.now.tables) (g.F.FileSystem.directory c.args.log.now.store.file_system) c.of_rewrite-rewriter.result.rewriting.batch.items in
+    rw c.write_anew-written.ensures.aside.groups (on_ok_weaker c.write_anew-written.result (λ on owed r v goes held. (on [] owed met' r v (c.in_ok-rewrite_each_anew.ensures.ok owed r v (all_begin list s c.of_rewrite-rewriter.ensures.watermark c.of_rewrite-rewriter.ensures.batch owed met r v goes held))).log) c.write_anew-written.ensures.ok)
 
 pub returns-clause-err : goal.returns-clause-err
 returns-clause-err g c =
-    let met = known_groups c.args.groups.now in
-    let met' = known_groups c.rewrite_each_anew.new.groups in
+    let met = known_groups c.args.log.now.groups in
+    let met' = known_groups c.rewrite_each_anew.new.log.groups in
     let list = c.args.list.now in
-    let s = gather_of c.of_rewrite-rewriter.result.rewriting.watermark c.args.pipes.now (tables_of c.args.tables.now) (g.F.FileSystem.directory c.args.file_system.now) c.of_rewrite-rewriter.result.rewriting.batch.items in
-    on_err_weaker c.write_anew-written.result (if_stands_map c.write_anew-written.result _ _ (λ ends owed r v goes held. ends owed met' r v (c.in_ok-rewrite_each_anew.ensures.ok owed r v (all_begin list s c.of_rewrite-rewriter.ensures.watermark c.of_rewrite-rewriter.ensures.batch owed met r v goes held)))) c.write_anew-written.ensures.err
+    let s = gather_of c.of_rewrite-rewriter.result.rewriting.watermark c.args.log.now.store.pipes (tables_of c.args.log.now.tables) (g.F.FileSystem.directory c.args.log.now.store.file_system) c.of_rewrite-rewriter.result.rewriting.batch.items in
+    rw c.write_anew-written.ensures.aside.groups (on_err_weaker c.write_anew-written.result (if_stands_map c.write_anew-written.result _ _ (λ ends owed r v goes held. ends owed met' r v (c.in_ok-rewrite_each_anew.ensures.ok owed r v (all_begin list s c.of_rewrite-rewriter.ensures.watermark c.of_rewrite-rewriter.ensures.batch owed met r v goes held)))) c.write_anew-written.ensures.err)
 
 pub returns-clause-any_moment : goal.returns-clause-any_moment
 returns-clause-any_moment g c =
-    let met = known_groups c.args.groups.now in
-    let met' = known_groups c.rewrite_each_anew.new.groups in
+    let met = known_groups c.args.log.now.groups in
+    let met' = known_groups c.rewrite_each_anew.new.log.groups in
     let list = c.args.list.now in
-    let s = gather_of c.of_rewrite-rewriter.result.rewriting.watermark c.args.pipes.now (tables_of c.args.tables.now) (g.F.FileSystem.directory c.args.file_system.now) c.of_rewrite-rewriter.result.rewriting.batch.items in
-    let s1 = gather_of c.rewrite_each_anew.new.self.rewriting.watermark c.rewrite_each_anew.new.pipes (tables_of c.rewrite_each_anew.new.tables) (g.F.FileSystem.directory c.rewrite_each_anew.new.file_system) c.rewrite_each_anew.new.self.rewriting.batch.items in
+    let s = gather_of c.of_rewrite-rewriter.result.rewriting.watermark c.args.log.now.store.pipes (tables_of c.args.log.now.tables) (g.F.FileSystem.directory c.args.log.now.store.file_system) c.of_rewrite-rewriter.result.rewriting.batch.items in
+    let s1 = gather_of c.rewrite_each_anew.new.self.rewriting.watermark c.rewrite_each_anew.new.log.store.pipes (tables_of c.rewrite_each_anew.new.log.tables) (g.F.FileSystem.directory c.rewrite_each_anew.new.log.store.file_system) c.rewrite_each_anew.new.self.rewriting.batch.items in
     moves_weaker (λ k at owed r v goes held. at owed r v (all_begin list s c.of_rewrite-rewriter.ensures.watermark c.of_rewrite-rewriter.ensures.batch owed met r v goes held))
     (moments_by met met' (IsRenewed list s) (IsRenewed [] s1) c.in_ok-rewrite_each_anew.ensures.ok c.rewrite_each_anew.ensures.any_moment (moves_weaker (λ k at owed r v held. at owed met' r v held) c.write_anew-written.ensures.any_moment))
 
@@ -144,67 +144,67 @@ returns-clause-any_moment g c =
 
 pub returns-clause-cause : goal.returns-clause-cause
 returns-clause-cause g c =
-    let d = c.args.pipes.now in
-    let t = tables_of c.args.tables.now in
-    let n = g.F.FileSystem.directory c.args.file_system.now in
-    let met = known_groups c.args.groups.now in
-    let met' = known_groups c.rewrite_each_anew.new.groups in
+    let d = c.args.log.now.store.pipes in
+    let t = tables_of c.args.log.now.tables in
+    let n = g.F.FileSystem.directory c.args.log.now.store.file_system in
+    let met = known_groups c.args.log.now.groups in
+    let met' = known_groups c.rewrite_each_anew.new.log.groups in
     let list = c.args.list.now in
-    let s = gather_of c.of_rewrite-rewriter.result.rewriting.watermark c.args.pipes.now (tables_of c.args.tables.now) (g.F.FileSystem.directory c.args.file_system.now) c.of_rewrite-rewriter.result.rewriting.batch.items in
-    let s1 = gather_of c.rewrite_each_anew.new.self.rewriting.watermark c.rewrite_each_anew.new.pipes (tables_of c.rewrite_each_anew.new.tables) (g.F.FileSystem.directory c.rewrite_each_anew.new.file_system) c.rewrite_each_anew.new.self.rewriting.batch.items in
+    let s = gather_of c.of_rewrite-rewriter.result.rewriting.watermark c.args.log.now.store.pipes (tables_of c.args.log.now.tables) (g.F.FileSystem.directory c.args.log.now.store.file_system) c.of_rewrite-rewriter.result.rewriting.batch.items in
+    let s1 = gather_of c.rewrite_each_anew.new.self.rewriting.watermark c.rewrite_each_anew.new.log.store.pipes (tables_of c.rewrite_each_anew.new.log.tables) (g.F.FileSystem.directory c.rewrite_each_anew.new.log.store.file_system) c.rewrite_each_anew.new.self.rewriting.batch.items in
     let P = MayRenewLog d t met n in
-    let r0 = g.F.FileSystem.refusals_of c.args.file_system.now in
-    let r1 = g.F.FileSystem.refusals_of c.rewrite_each_anew.new.file_system in
+    let r0 = g.F.FileSystem.refusals_of c.args.log.now.store.file_system in
+    let r1 = g.F.FileSystem.refusals_of c.rewrite_each_anew.new.log.store.file_system in
     let begin : (owed : Owed) (r : Renewal) (v : LogValue) → GoesOnRenewal met r → IsLog (renewed_log d t owed met r n) v → IsRenewed list s owed met r v = λ owed r v goes held. all_begin list s c.of_rewrite-rewriter.ensures.watermark c.of_rewrite-rewriter.ensures.batch owed met r v goes held in
-    let U' : Fault → Type 0 = λ f. HasNoId c.rewrite_each_anew.new.groups f ⊎ IsUnfitWhere P f in
-    let r2 = g.F.FileSystem.refusals_of c.write_anew-written.new.file_system in
-    let n2 = g.F.FileSystem.directory c.write_anew-written.new.file_system in
+    let U' : Fault → Type 0 = λ f. HasNoId c.rewrite_each_anew.new.log.groups f ⊎ IsUnfitWhere P f in
+    let r2 = g.F.FileSystem.refusals_of c.write_anew-written.new.log.store.file_system in
+    let n2 = g.F.FileSystem.directory c.write_anew-written.new.log.store.file_system in
     let weaker : (f : Fault) → IsUnfitAnew (IsRenewed [] s1) f → U' f = λ f unfit. inr (λ v (owed, r, goes, held). unfit owed met' r v (c.in_ok-rewrite_each_anew.ensures.ok owed r v (begin owed r v goes held))) in
-    each_atomic_since c.write_anew-written.result d c.rewrite_each_anew.new.pipes c.write_anew-written.new.pipes n2 r0 r1 r2 U' U' c.in_ok-rewrite_each_anew.ensures.rewrites.keeps.folders c.rewrite_each_anew.ensures.any_moment.no_fewer (λ f h. h)
-    (each_plain_refusal c.write_anew-written.result c.rewrite_each_anew.new.pipes c.write_anew-written.new.pipes n2 r1 r2 (IsUnfitAnew (IsRenewed [] s1)) U' weaker c.write_anew-written.ensures.cause)
+    rw c.write_anew-written.ensures.aside.groups (each_atomic_since c.write_anew-written.result d c.rewrite_each_anew.new.log.store.pipes c.write_anew-written.new.log.store.pipes n2 r0 r1 r2 U' U' c.in_ok-rewrite_each_anew.ensures.rewrites.keeps.folders c.rewrite_each_anew.ensures.any_moment.no_fewer (λ f h. h)
+    (each_plain_refusal c.write_anew-written.result c.rewrite_each_anew.new.log.store.pipes c.write_anew-written.new.log.store.pipes n2 r1 r2 (IsUnfitAnew (IsRenewed [] s1)) U' weaker c.write_anew-written.ensures.cause))
 
 pub returns-in_err-rewrite_each_anew-clause-cause : goal.returns-in_err-rewrite_each_anew-clause-cause
 returns-in_err-rewrite_each_anew-clause-cause g c =
-    let d = c.args.pipes.now in
-    let t = tables_of c.args.tables.now in
-    let n = g.F.FileSystem.directory c.args.file_system.now in
-    let met = known_groups c.args.groups.now in
+    let d = c.args.log.now.store.pipes in
+    let t = tables_of c.args.log.now.tables in
+    let n = g.F.FileSystem.directory c.args.log.now.store.file_system in
+    let met = known_groups c.args.log.now.groups in
     let list = c.args.list.now in
-    let s = gather_of c.of_rewrite-rewriter.result.rewriting.watermark c.args.pipes.now (tables_of c.args.tables.now) (g.F.FileSystem.directory c.args.file_system.now) c.of_rewrite-rewriter.result.rewriting.batch.items in
+    let s = gather_of c.of_rewrite-rewriter.result.rewriting.watermark c.args.log.now.store.pipes (tables_of c.args.log.now.tables) (g.F.FileSystem.directory c.args.log.now.store.file_system) c.of_rewrite-rewriter.result.rewriting.batch.items in
     let P = MayRenewLog d t met n in
-    let r0 = g.F.FileSystem.refusals_of c.args.file_system.now in
-    let r1 = g.F.FileSystem.refusals_of c.rewrite_each_anew.new.file_system in
+    let r0 = g.F.FileSystem.refusals_of c.args.log.now.store.file_system in
+    let r1 = g.F.FileSystem.refusals_of c.rewrite_each_anew.new.log.store.file_system in
     let begin : (owed : Owed) (r : Renewal) (v : LogValue) → GoesOnRenewal met r → IsLog (renewed_log d t owed met r n) v → IsRenewed list s owed met r v = λ owed r v goes held. all_begin list s c.of_rewrite-rewriter.ensures.watermark c.of_rewrite-rewriter.ensures.batch owed met r v goes held in
-    let U : Fault → Type 0 = λ f. HasNoId c.rewrite_each_anew.new.groups f ⊎ IsUnfitBy met (IsRenewed list s) f in
-    let U' : Fault → Type 0 = λ f. HasNoId c.rewrite_each_anew.new.groups f ⊎ IsUnfitWhere P f in
+    let U : Fault → Type 0 = λ f. HasNoId c.rewrite_each_anew.new.log.groups f ⊎ IsUnfitBy met (IsRenewed list s) f in
+    let U' : Fault → Type 0 = λ f. HasNoId c.rewrite_each_anew.new.log.groups f ⊎ IsUnfitWhere P f in
     let weaker : (f : Fault) → U f → U' f = λ f h. elim h [ inl none ↦ inl none | inr unfit ↦ inr (λ v (owed, r, goes, held). unfit owed r v (begin owed r v goes held)) ] in
     let p = err_from_is_err_and c.from_residual-in_err-rewrite_each_anew.result c.from_residual-in_err-rewrite_each_anew.ensures.1 in
-    rw (p.1, p.2) (atomic_since d d c.rewrite_each_anew.new.pipes (g.F.FileSystem.directory c.rewrite_each_anew.new.file_system) r0 r0 r1 U U' c.in_err-rewrite_each_anew.field-0.0 (λ queue. refl) (omega arith, omega arith) weaker c.in_err-rewrite_each_anew.ensures.cause)
+    rw (p.1, p.2) (atomic_since d d c.rewrite_each_anew.new.log.store.pipes (g.F.FileSystem.directory c.rewrite_each_anew.new.log.store.file_system) r0 r0 r1 U U' c.in_err-rewrite_each_anew.field-0.0 (λ queue. refl) (omega arith, omega arith) weaker c.in_err-rewrite_each_anew.ensures.cause)
 
 pub returns-clause-emptied : goal.returns-clause-emptied
 returns-clause-emptied g c =
-    let s = gather_of c.of_rewrite-rewriter.result.rewriting.watermark c.args.pipes.now (tables_of c.args.tables.now) (g.F.FileSystem.directory c.args.file_system.now) c.of_rewrite-rewriter.result.rewriting.batch.items in
-    let s1 = gather_of c.rewrite_each_anew.new.self.rewriting.watermark c.rewrite_each_anew.new.pipes (tables_of c.rewrite_each_anew.new.tables) (g.F.FileSystem.directory c.rewrite_each_anew.new.file_system) c.rewrite_each_anew.new.self.rewriting.batch.items in
-    let s2 = gather_of c.write_anew-written.new.self.rewriting.watermark c.write_anew-written.new.pipes (tables_of c.write_anew-written.new.tables) (g.F.FileSystem.directory c.write_anew-written.new.file_system) c.write_anew-written.new.self.rewriting.batch.items in
+    let s = gather_of c.of_rewrite-rewriter.result.rewriting.watermark c.args.log.now.store.pipes (tables_of c.args.log.now.tables) (g.F.FileSystem.directory c.args.log.now.store.file_system) c.of_rewrite-rewriter.result.rewriting.batch.items in
+    let s1 = gather_of c.rewrite_each_anew.new.self.rewriting.watermark c.rewrite_each_anew.new.log.store.pipes (tables_of c.rewrite_each_anew.new.log.tables) (g.F.FileSystem.directory c.rewrite_each_anew.new.log.store.file_system) c.rewrite_each_anew.new.self.rewriting.batch.items in
+    let s2 = gather_of c.write_anew-written.new.self.rewriting.watermark c.write_anew-written.new.log.store.pipes (tables_of c.write_anew-written.new.log.tables) (g.F.FileSystem.directory c.write_anew-written.new.log.store.file_system) c.write_anew-written.new.self.rewriting.batch.items in
     let each = c.in_ok-rewrite_each_anew.ensures in
     both_ok c.write_anew-written.result _ _ _ (λ moved none first low. let later = each.rewrites.keeps.later in each_none_before first s s1 s2 c.args.list.now c.of_rewrite-rewriter.ensures.watermark
     (each.moved first low) (each.groups first low) (moved first (omega (arith, low, later))) (none (λ never. absurd cc))) c.write_anew-written.ensures.moved c.write_anew-written.ensures.emptied
 
 pub returns-clause-still : goal.returns-clause-still
 returns-clause-still g c =
-    let s = gather_of c.of_rewrite-rewriter.result.rewriting.watermark c.args.pipes.now (tables_of c.args.tables.now) (g.F.FileSystem.directory c.args.file_system.now) c.of_rewrite-rewriter.result.rewriting.batch.items in
-    let s1 = gather_of c.rewrite_each_anew.new.self.rewriting.watermark c.rewrite_each_anew.new.pipes (tables_of c.rewrite_each_anew.new.tables) (g.F.FileSystem.directory c.rewrite_each_anew.new.file_system) c.rewrite_each_anew.new.self.rewriting.batch.items in
-    let s2 = gather_of c.write_anew-written.new.self.rewriting.watermark c.write_anew-written.new.pipes (tables_of c.write_anew-written.new.tables) (g.F.FileSystem.directory c.write_anew-written.new.file_system) c.write_anew-written.new.self.rewriting.batch.items in
+    let s = gather_of c.of_rewrite-rewriter.result.rewriting.watermark c.args.log.now.store.pipes (tables_of c.args.log.now.tables) (g.F.FileSystem.directory c.args.log.now.store.file_system) c.of_rewrite-rewriter.result.rewriting.batch.items in
+    let s1 = gather_of c.rewrite_each_anew.new.self.rewriting.watermark c.rewrite_each_anew.new.log.store.pipes (tables_of c.rewrite_each_anew.new.log.tables) (g.F.FileSystem.directory c.rewrite_each_anew.new.log.store.file_system) c.rewrite_each_anew.new.self.rewriting.batch.items in
+    let s2 = gather_of c.write_anew-written.new.self.rewriting.watermark c.write_anew-written.new.log.store.pipes (tables_of c.write_anew-written.new.log.tables) (g.F.FileSystem.directory c.write_anew-written.new.log.store.file_system) c.write_anew-written.new.self.rewriting.batch.items in
     let each = c.in_ok-rewrite_each_anew.ensures in
     both_ok c.write_anew-written.result _ _ _ (λ moved none first group low. let later = each.rewrites.keeps.later in still_none_before first s s1 s2 group c.of_rewrite-rewriter.ensures.watermark c.of_rewrite-rewriter.ensures.batch
     (each.moved first low) (moved first (omega (arith, low, later))) (none (λ never. absurd cc))) c.write_anew-written.ensures.moved c.write_anew-written.ensures.emptied
 
 pub returns-clause-only : goal.returns-clause-only
 returns-clause-only g c =
-    let t = tables_of c.args.tables.now in
-    let t1 = tables_of c.rewrite_each_anew.new.tables in
-    let t2 = tables_of c.write_anew-written.new.tables in
-    let first = last_seq c.args.pipes.now.rewrite in
+    let t = tables_of c.args.log.now.tables in
+    let t1 = tables_of c.rewrite_each_anew.new.log.tables in
+    let t2 = tables_of c.write_anew-written.new.log.tables in
+    let first = last_seq c.args.log.now.store.pipes.rewrite in
     let each = c.in_ok-rewrite_each_anew.ensures in
     let unmarked = c.of_rewrite-rewriter.ensures.watermark in
     let one = subst (λ (w : Option ℕ). MovesOnly w t t1) unmarked (each.moved first (omega arith)).2 in
@@ -214,8 +214,8 @@ returns-clause-only g c =
 
 pub returns-in_err-blocks-clause-rewrites : goal.returns-in_err-blocks-clause-rewrites
 returns-in_err-blocks-clause-rewrites g c =
-    let d = c.args.pipes.now in
-    let n = g.F.FileSystem.directory c.args.file_system.now in
+    let d = c.args.log.now.store.pipes in
+    let n = g.F.FileSystem.directory c.args.log.now.store.file_system in
     let p = err_from_is_err_and c.from_residual.result c.from_residual.ensures.1 in
     rw (p.1, p.2) (record {
       keeps = keeps_read _ _ _;
@@ -230,7 +230,7 @@ returns-in_err-rewrite_each_anew-clause-rewrites g c =
     rw (p.1, p.2) (record {
       keeps = record { others = kept.others; first = kept.first; later = tt; folders = tt; found = kept.found };
       cut = tt;
-      holds = stands_any {T = Unit {0}} (Err c.in_err-rewrite_each_anew.field-0.0) _ (rest_none c.rewrite_each_anew.new.pipes (g.F.FileSystem.directory c.rewrite_each_anew.new.file_system) _ c.in_ok-blocks.ensures.emptied);
+      holds = stands_any {T = Unit {0}} (Err c.in_err-rewrite_each_anew.field-0.0) _ (rest_none c.rewrite_each_anew.new.log.store.pipes (g.F.FileSystem.directory c.rewrite_each_anew.new.log.store.file_system) _ (c.rewrite_each_anew.ensures.aside.cache ∙ c.in_ok-blocks.ensures.emptied));
     })
 
 pub returns-clause-rewrites : goal.returns-clause-rewrites
@@ -244,15 +244,15 @@ returns-clause-rewrites g c = record {
       on_ok_weaker c.write_anew-written.result (λ written rests are. adds_last batch (written_in c.rewrite_each_anew.new.events) (written_in c.write_anew-written.new.events) written
       (cut_small batch (few_held self.held (bytes_held batch) self.counted c.in_ok-rewrite_each_anew.ensures.within)) rests (c.in_ok-rewrite_each_anew.ensures.rewrites.cut rests (begins rests are))) c.write_anew-written.ensures.written;
   holds =
-      let met = known_groups c.args.groups.now in
-      let met' = known_groups c.rewrite_each_anew.new.groups in
+      let met = known_groups c.args.log.now.groups in
+      let met' = known_groups c.rewrite_each_anew.new.log.groups in
       let list = c.args.list.now in
-      let s = gather_of c.of_rewrite-rewriter.result.rewriting.watermark c.args.pipes.now (tables_of c.args.tables.now) (g.F.FileSystem.directory c.args.file_system.now) c.of_rewrite-rewriter.result.rewriting.batch.items in
-      let s1 = gather_of c.rewrite_each_anew.new.self.rewriting.watermark c.rewrite_each_anew.new.pipes (tables_of c.rewrite_each_anew.new.tables) (g.F.FileSystem.directory c.rewrite_each_anew.new.file_system) c.rewrite_each_anew.new.self.rewriting.batch.items in
+      let s = gather_of c.of_rewrite-rewriter.result.rewriting.watermark c.args.log.now.store.pipes (tables_of c.args.log.now.tables) (g.F.FileSystem.directory c.args.log.now.store.file_system) c.of_rewrite-rewriter.result.rewriting.batch.items in
+      let s1 = gather_of c.rewrite_each_anew.new.self.rewriting.watermark c.rewrite_each_anew.new.log.store.pipes (tables_of c.rewrite_each_anew.new.log.tables) (g.F.FileSystem.directory c.rewrite_each_anew.new.log.store.file_system) c.rewrite_each_anew.new.self.rewriting.batch.items in
       let r = c.write_anew-written.result in
-      let d = c.write_anew-written.new.pipes in
-      let n = g.F.FileSystem.directory c.write_anew-written.new.file_system in
-      let s2 = gather_of c.write_anew-written.new.self.rewriting.watermark d (tables_of c.write_anew-written.new.tables) n c.write_anew-written.new.self.rewriting.batch.items in
+      let d = c.write_anew-written.new.log.store.pipes in
+      let n = g.F.FileSystem.directory c.write_anew-written.new.log.store.file_system in
+      let s2 = gather_of c.write_anew-written.new.self.rewriting.watermark d (tables_of c.write_anew-written.new.log.tables) n c.write_anew-written.new.self.rewriting.batch.items in
       let kept = c.rewrite_each_anew.new.self.cache in
       let some = some_known met' (IsRenewed [] s1) (some_by met met' (IsRenewed list s) (IsRenewed [] s1) c.in_ok-rewrite_each_anew.ensures.ok (∥∥₁_map c.requires.some (λ x. let owed = x.0 in let r = x.1 in let v = x.2 in let goes = x.3 in let held = x.4 in (owed, r, v, (all_begin list s c.of_rewrite-rewriter.ensures.watermark c.of_rewrite-rewriter.ensures.batch owed met r v goes held))))) in
       let rest = rest_held s1.pipes s1.files kept c.in_ok-rewrite_each_anew.ensures.rewrites.holds in

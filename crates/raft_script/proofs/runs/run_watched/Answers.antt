@@ -89,8 +89,8 @@ loop-op-preserved g c =
     ∙ ap (λ (l : List Batch). l ++ accepted_of (contents_of old) op outcome) (kept.4 (alive_before stands))
     ∙ ap (λ (l : List Batch). (base_of begun ++ p.batches) ++ l) wrote
     ∙ append_assoc (base_of begun) p.batches (accepted_of (after_batches m p.batches) op outcome) in
-    let now = (g.met.F.FileSystem g.world.𝓛 g.world.𝓜 g.world.𝓡 ((λ s allowed. allowed), (λ patient. patient), (λ solo. solo), (λ cuts. cuts))).now_counts new.file_system in
-    let once = (g.met.F.FileSystem g.world.𝓛 g.world.𝓜 g.world.𝓡 ((λ s allowed. allowed), (λ patient. patient), (λ solo. solo), (λ cuts. cuts))).now_counts old.file_system in
+    let now = (g.met.F.FileSystem g.world.𝓛 g.world.𝓜 g.world.𝓡 ((λ s allowed. allowed), (λ patient. patient), (λ solo. solo), (λ cuts. cuts))).now_counts new.log.store.file_system in
+    let once = (g.met.F.FileSystem g.world.𝓛 g.world.𝓜 g.world.𝓡 ((λ s allowed. allowed), (λ patient. patient), (λ solo. solo), (λ cuts. cuts))).now_counts old.log.store.file_system in
     let here_before : LeavesAllowed (folders_of old) (durable_of old) (unsynced_of old) (directory_of old) = subst (λ (f : Contents). LeavesAllowed (folders_of old) (after_batches f (base_of old)) (unsynced_of old) (directory_of old)) (sym before) kept.10.leaves in
     let here_after : LeavesAllowed (folders_of old) (after_batches found (base_of new)) (unsynced_of new) (directory_of new) =
     subst (λ (f : Contents). LeavesAllowed (folders_of old) (after_batches f (base_of new)) (unsynced_of new) (directory_of new)) after

@@ -46,7 +46,7 @@ returns-in-Ok-clause-any_moment g c =
     let e = c.in-Ok.engine in
     let read = c.image-found.ensures.unchanged in
     let back = c.give_up.ensures.unchanged in
-    let read_on = moves_then_reads {new = c.image-found.new.self.file_system} opened.any_moment (record { same_files = read.files; same_moments = read.moments; no_fewer = read.refusals }) in
+    let read_on = moves_then_reads {new = c.image-found.new.self.log.store.file_system} opened.any_moment (record { same_files = read.files; same_moments = read.moments; no_fewer = read.refusals }) in
     record {
       any_moment = moves_then_reads read_on (record { same_files = back.0; same_moments = back.1; no_fewer = (let same = ap (λ (r : Refusals). r.storage) back.2 in omega (arith, same), let same = ap (λ (r : Refusals). r.memory) back.2 in omega (arith, same)) });
       counted = λ io.

@@ -39,7 +39,7 @@ invariant_of-self g c =
 pub returns-in-Ok-clause-value : goal.returns-in-Ok-clause-value
 returns-in-Ok-clause-value g c =
     let old = c.args.self.now in
-    let same = ap (λ (b : Blocks). contents_in b (tables_of old.tables)) (blocks_over old c.new-reader.result c.new-reader.ensures.pipes (ap (λ r. r.now) c.new-reader.ensures.file_system)) in
+    let same = ap (λ (b : Blocks). contents_in b (tables_of old.log.tables)) (blocks_over old c.new-reader.result c.new-reader.ensures.pipes (ap (λ r. r.now) c.new-reader.ensures.file_system)) in
     subst (λ (m : Contents). IsImageOf c.in-Ok.image.groups.items (shown m)) (same ∙ (stands_for old c.if-self.false).contents) c.in-Ok.ensures.value
 
 pub returns-in-Err-clause-failed : goal.returns-in-Err-clause-failed
@@ -47,7 +47,7 @@ returns-in-Err-clause-failed g c =
     let old = c.args.self.now in
     let left = c.image_of.new.reader in
     let dual = dual_over old c.new-reader.result c.new-reader.ensures.pipes (ap (λ r. r.now) c.new-reader.ensures.file_system) left c.in-Err.fault c.in-Err.ensures.cause in
-    failed_iff c.in-Err.fault (has_failed old) c.if-self.false (dual_refusal_not_failed old.pipes (refusals_of old) (g.F.FileSystem.refusals_of left.file_system.now) c.in-Err.fault dual)
+    failed_iff c.in-Err.fault (has_failed old) c.if-self.false (dual_refusal_not_failed old.log.store.pipes (refusals_of old) (g.F.FileSystem.refusals_of left.file_system.now) c.in-Err.fault dual)
 
 pub returns-in-Err-clause-cause : goal.returns-in-Err-clause-cause
 returns-in-Err-clause-cause g c = λ alive.

@@ -70,10 +70,10 @@ returns-clause-groups g c =
     let is = c.is_none.ensures in
     let last = c.is_none.result in
     record {
-      renewed = renewed_from (first_new old) c.args.from found (tables_of old.tables) (tables_of new.tables) c.in-Ok.ensures.value left.emptied freed.tables;
+      renewed = renewed_from (first_new old) c.args.from found (tables_of old.log.tables) (tables_of new.log.tables) c.in-Ok.ensures.value left.emptied freed.tables;
       fits = (found, refl, c.in-Ok.ensures.ascending, c.in-Ok.ensures.value, c.in-Ok.ensures.budget);
       renewal = done.renewal ∙ behind_is last found.next (files_new old) is;
-      rewrite = begins_with last found.next (first_new old) (has_groups_together old) new.tables (rewrite_queue_of old) (rewrite_queue_of new) is left.kept left.dropped;
+      rewrite = begins_with last found.next (first_new old) (has_groups_together old) new.log.tables (rewrite_queue_of old) (rewrite_queue_of new) is left.kept left.dropped;
       gone = λ none together each. left.gone (last_of last found.next is none) together (record { entries = λ group. (each group).entries; keys = λ group key. (each group).keys key });
       append = freed.append refl;
       lost = tt;

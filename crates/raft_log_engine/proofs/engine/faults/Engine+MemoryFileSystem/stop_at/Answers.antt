@@ -12,8 +12,8 @@ invariant_of-self c =
     let same = c.stop_at.ensures.unchanged in
     record {
       emptied = e.emptied;
-      holds = λ alive. subst (λ n. Holds e.pipes n e.tables (contents_of e) (is_known_in e)) (sym same) (e.holds alive);
-      cached = λ alive. subst (λ n. HoldsBlockIn e.pipes n e.cache) (sym same) (e.cached alive);
+      holds = λ alive. subst (λ n. Holds e.log.store.pipes n e.log.tables (contents_of e) (is_known_in e)) (sym same) (e.holds alive);
+      cached = λ alive. subst (λ n. HoldsBlockIn e.log.store.pipes n e.log.cache) (sym same) (e.cached alive);
       queues = queues_still e _ same;
       completed = completed_still e _ same;
       goes = goes_still e _ same;

@@ -23,23 +23,23 @@ use Rattle.raft_purge.specs.declared.renewal_groups.NewFiles.{NewFiles}
 use Rattle.raft_log_engine.specs.Purge.{GoesOnIf}
 use Rattle.raft_log_engine.specs.declared.engine.purge_kind.Purge.{Purge}
 use Rattle.raft_log_engine.proofs.RewriteGroupsLemmas.{going_on, renewed_groups}
-use Rattle.raft_log_engine.proofs.engine.purge_kind.PurgeRun.run.Goals as goal
+use Rattle.raft_log_engine.proofs.engine.purge_kind.Purge.run.Goals as goal
 
 -- A rewriting of the Append queue, whose log is kept whatever is known of atomic groups.
 
 pub rewrite_append_queue-requires-clause-some : goal.rewrite_append_queue-requires-clause-some
-rewrite_append_queue-requires-clause-some g c = λ κs within. ∥∥₁_map c.requires.some (λ x. (known_groups c.args.groups.now, x.0, x.1))
+rewrite_append_queue-requires-clause-some g c = λ κs within. ∥∥₁_map c.requires.some (λ x. (known_groups c.args.log.now.groups, x.0, x.1))
 
 pub returns-in-RewriteAppend-clause-purges : goal.returns-in-RewriteAppend-clause-purges
 returns-in-RewriteAppend-clause-purges g c =
     let p = c.rewrite_append_queue.ensures.purges in
-    rw c.in-RewriteAppend.is (record {
-      log = still_at (λ _. known_groups c.args.groups.now) p.log;
+    rw (c.in-RewriteAppend.is, c.rewrite_append_queue.ensures.known) (record {
+      log = still_at (λ _. known_groups c.args.log.now.groups) p.log;
       value = p.value;
       front = p.front;
       cut = on_ok_weaker c.rewrite_append_queue.result (λ cut none. cut 0 (none_cut none)) p.cut;
       holds = p.holds;
-      cause = IfErr-weaker c.rewrite_append_queue.result _ _ (append_cause c.args.pipes.now c.rewrite_append_queue.new.pipes (tables_of c.args.tables.now) (tables_of c.rewrite_append_queue.new.tables) (owed_of c.args.owed.now) (known_groups c.args.groups.now) (g.F.FileSystem.directory c.args.file_system.now) (g.F.FileSystem.directory c.rewrite_append_queue.new.file_system) (g.F.FileSystem.refusals_of c.args.file_system.now) (g.F.FileSystem.refusals_of c.rewrite_append_queue.new.file_system)) p.cause;
+      cause = IfErr-weaker c.rewrite_append_queue.result _ _ (append_cause c.args.log.now.store.pipes c.rewrite_append_queue.new.log.store.pipes (tables_of c.args.log.now.tables) (tables_of c.rewrite_append_queue.new.log.tables) (owed_of c.args.log.now.owed) (known_groups c.args.log.now.groups) (g.F.FileSystem.directory c.args.log.now.store.file_system) (g.F.FileSystem.directory c.rewrite_append_queue.new.log.store.file_system) (g.F.FileSystem.refusals_of c.args.log.now.store.file_system) (g.F.FileSystem.refusals_of c.rewrite_append_queue.new.log.store.file_system)) p.cause;
     })
 
 pub returns-in-RewriteAppend-clause-frees : goal.returns-in-RewriteAppend-clause-frees
@@ -59,7 +59,7 @@ returns-in-RewriteAppend-clause-frees g c =
 -- .. of some groups.
 
 pub rewrite_append_groups-requires-clause-some : goal.rewrite_append_groups-requires-clause-some
-rewrite_append_groups-requires-clause-some g c = λ κs within. ∥∥₁_map c.requires.some (λ x. (known_groups c.args.groups.now, x.0, x.1))
+rewrite_append_groups-requires-clause-some g c = λ κs within. ∥∥₁_map c.requires.some (λ x. (known_groups c.args.log.now.groups, x.0, x.1))
 
 pub rewrite_append_groups-requires-clause-ascending : goal.rewrite_append_groups-requires-clause-ascending
 rewrite_append_groups-requires-clause-ascending g c = λ κs within.
@@ -68,22 +68,22 @@ rewrite_append_groups-requires-clause-ascending g c = λ κs within.
 pub returns-in-RewriteGroups-clause-purges : goal.returns-in-RewriteGroups-clause-purges
 returns-in-RewriteGroups-clause-purges g c =
     let p = c.rewrite_append_groups.ensures.purges in
-    rw c.in-RewriteGroups.is (record {
-      log = still_at (λ _. known_groups c.args.groups.now) p.log;
+    rw (c.in-RewriteGroups.is, c.rewrite_append_groups.ensures.known) (record {
+      log = still_at (λ _. known_groups c.args.log.now.groups) p.log;
       value = p.value;
       front = p.front;
       cut = on_ok_weaker c.rewrite_append_groups.result (λ cut none. cut 0 (none_cut none)) p.cut;
       holds = p.holds;
-      cause = IfErr-weaker c.rewrite_append_groups.result _ _ (append_cause c.args.pipes.now c.rewrite_append_groups.new.pipes (tables_of c.args.tables.now) (tables_of c.rewrite_append_groups.new.tables) (owed_of c.args.owed.now) (known_groups c.args.groups.now) (g.F.FileSystem.directory c.args.file_system.now) (g.F.FileSystem.directory c.rewrite_append_groups.new.file_system) (g.F.FileSystem.refusals_of c.args.file_system.now) (g.F.FileSystem.refusals_of c.rewrite_append_groups.new.file_system)) p.cause;
+      cause = IfErr-weaker c.rewrite_append_groups.result _ _ (append_cause c.args.log.now.store.pipes c.rewrite_append_groups.new.log.store.pipes (tables_of c.args.log.now.tables) (tables_of c.rewrite_append_groups.new.log.tables) (owed_of c.args.log.now.owed) (known_groups c.args.log.now.groups) (g.F.FileSystem.directory c.args.log.now.store.file_system) (g.F.FileSystem.directory c.rewrite_append_groups.new.log.store.file_system) (g.F.FileSystem.refusals_of c.args.log.now.store.file_system) (g.F.FileSystem.refusals_of c.rewrite_append_groups.new.log.store.file_system)) p.cause;
     })
 
 pub returns-in-RewriteGroups-clause-frees : goal.returns-in-RewriteGroups-clause-frees
 returns-in-RewriteGroups-clause-frees g c =
     let done = c.rewrite_append_groups.ensures in
-    let d = c.args.pipes.now in
-    let d' = c.rewrite_append_groups.new.pipes in
-    let t = tables_of c.args.tables.now in
-    let t' = tables_of c.rewrite_append_groups.new.tables in
+    let d = c.args.log.now.store.pipes in
+    let d' = c.rewrite_append_groups.new.log.store.pipes in
+    let t = tables_of c.args.log.now.tables in
+    let t' = tables_of c.rewrite_append_groups.new.log.tables in
     rw c.in-RewriteGroups.is (record {
       files = groups_left c.rewrite_append_groups.result c.in-RewriteGroups.some c.deref.result.now t t' d.append d.rewrite d'.append d'.rewrite c.deref.ensures.value done.emptied done.rotated done.early done.rewrite;
       first = on_err_of c.rewrite_append_groups.result _ done.first;
@@ -98,18 +98,18 @@ returns-in-RewriteGroups-clause-frees g c =
 -- A rewriting of the Rewrite queue, whose log is kept whichever marks are owed.
 
 pub rewrite_rewrite_queue-requires-clause-some : goal.rewrite_rewrite_queue-requires-clause-some
-rewrite_rewrite_queue-requires-clause-some g c = λ κs within. ∥∥₁_map c.requires.some (λ x. (owed_of c.args.owed.now, x.0, x.1))
+rewrite_rewrite_queue-requires-clause-some g c = λ κs within. ∥∥₁_map c.requires.some (λ x. (owed_of c.args.log.now.owed, x.0, x.1))
 
 pub returns-in-RewriteRewrite-clause-purges : goal.returns-in-RewriteRewrite-clause-purges
 returns-in-RewriteRewrite-clause-purges g c =
     let p = c.rewrite_rewrite_queue.ensures.renews.purges in
-    rw c.in-RewriteRewrite.is (record {
-      log = still_at (λ _. owed_of c.args.owed.now) p.log;
+    rw (c.in-RewriteRewrite.is, c.rewrite_rewrite_queue.ensures.owed) (record {
+      log = still_at (λ _. owed_of c.args.log.now.owed) p.log;
       value = p.value;
       front = p.front;
       cut = on_ok_weaker c.rewrite_rewrite_queue.result (λ cut none. cut 0 (none_cut none)) p.cut;
       holds = p.holds;
-      cause = IfErr-weaker c.rewrite_rewrite_queue.result _ _ (renew_cause c.args.pipes.now c.rewrite_rewrite_queue.new.pipes (tables_of c.args.tables.now) (tables_of c.rewrite_rewrite_queue.new.tables) (owed_of c.args.owed.now) (known_groups c.args.groups.now) (g.F.FileSystem.directory c.args.file_system.now) (g.F.FileSystem.directory c.rewrite_rewrite_queue.new.file_system) (g.F.FileSystem.refusals_of c.args.file_system.now) (g.F.FileSystem.refusals_of c.rewrite_rewrite_queue.new.file_system) c.rewrite_rewrite_queue.new.groups) p.cause;
+      cause = IfErr-weaker c.rewrite_rewrite_queue.result _ _ (renew_cause c.args.log.now.store.pipes c.rewrite_rewrite_queue.new.log.store.pipes (tables_of c.args.log.now.tables) (tables_of c.rewrite_rewrite_queue.new.log.tables) (owed_of c.args.log.now.owed) (known_groups c.args.log.now.groups) (g.F.FileSystem.directory c.args.log.now.store.file_system) (g.F.FileSystem.directory c.rewrite_rewrite_queue.new.log.store.file_system) (g.F.FileSystem.refusals_of c.args.log.now.store.file_system) (g.F.FileSystem.refusals_of c.rewrite_rewrite_queue.new.log.store.file_system) c.rewrite_rewrite_queue.new.log.groups) p.cause;
     })
 
 pub returns-in-RewriteRewrite-clause-frees : goal.returns-in-RewriteRewrite-clause-frees
@@ -133,32 +133,32 @@ returns-in-RewriteRewrite-clause-together g c = c.rewrite_rewrite_queue.ensures.
 -- .. of some groups.
 
 pub rewrite_rewrite_groups-requires-clause-some : goal.rewrite_rewrite_groups-requires-clause-some
-rewrite_rewrite_groups-requires-clause-some g c = λ κs within. ∥∥₁_map c.requires.some (λ x. (owed_of c.args.owed.now, x.0, x.1))
+rewrite_rewrite_groups-requires-clause-some g c = λ κs within. ∥∥₁_map c.requires.some (λ x. (owed_of c.args.log.now.owed, x.0, x.1))
 
 pub rewrite_rewrite_groups-requires-clause-goes : goal.rewrite_rewrite_groups-requires-clause-goes
 rewrite_rewrite_groups-requires-clause-goes g c = λ κs within.
-    subst (λ (p : Purge). GoesOnIf p c.args.pipes.now (tables_of c.args.tables.now) (known_groups c.args.groups.now) (g.F.FileSystem.directory c.args.file_system.now)) c.in-RenewGroups.is c.requires.goes
+    subst (λ (p : Purge). GoesOnIf p c.args.log.now.store.pipes (tables_of c.args.log.now.tables) (known_groups c.args.log.now.groups) (g.F.FileSystem.directory c.args.log.now.store.file_system)) c.in-RenewGroups.is c.requires.goes
 
 pub returns-in-RenewGroups-clause-purges : goal.returns-in-RenewGroups-clause-purges
 returns-in-RenewGroups-clause-purges g c =
     let p = c.rewrite_rewrite_groups.ensures.purges in
-    rw c.in-RenewGroups.is (record {
-      log = still_at (λ _. owed_of c.args.owed.now) p.log;
+    rw (c.in-RenewGroups.is, c.rewrite_rewrite_groups.ensures.owed) (record {
+      log = still_at (λ _. owed_of c.args.log.now.owed) p.log;
       value = p.value;
       front = p.front;
       cut = on_ok_weaker c.rewrite_rewrite_groups.result (λ cut none. cut 0 (none_cut none)) p.cut;
       holds = p.holds;
-      cause = IfErr-weaker c.rewrite_rewrite_groups.result _ _ (renew_cause c.args.pipes.now c.rewrite_rewrite_groups.new.pipes (tables_of c.args.tables.now) (tables_of c.rewrite_rewrite_groups.new.tables) (owed_of c.args.owed.now) (known_groups c.args.groups.now) (g.F.FileSystem.directory c.args.file_system.now) (g.F.FileSystem.directory c.rewrite_rewrite_groups.new.file_system) (g.F.FileSystem.refusals_of c.args.file_system.now) (g.F.FileSystem.refusals_of c.rewrite_rewrite_groups.new.file_system) c.rewrite_rewrite_groups.new.groups) p.cause;
+      cause = IfErr-weaker c.rewrite_rewrite_groups.result _ _ (renew_cause c.args.log.now.store.pipes c.rewrite_rewrite_groups.new.log.store.pipes (tables_of c.args.log.now.tables) (tables_of c.rewrite_rewrite_groups.new.log.tables) (owed_of c.args.log.now.owed) (known_groups c.args.log.now.groups) (g.F.FileSystem.directory c.args.log.now.store.file_system) (g.F.FileSystem.directory c.rewrite_rewrite_groups.new.log.store.file_system) (g.F.FileSystem.refusals_of c.args.log.now.store.file_system) (g.F.FileSystem.refusals_of c.rewrite_rewrite_groups.new.log.store.file_system) c.rewrite_rewrite_groups.new.log.groups) p.cause;
     })
 
 pub returns-in-RenewGroups-clause-frees : goal.returns-in-RenewGroups-clause-frees
 returns-in-RenewGroups-clause-frees g c =
     let done = c.rewrite_rewrite_groups.ensures in
-    let d = c.args.pipes.now in
-    let d' = c.rewrite_rewrite_groups.new.pipes in
+    let d = c.args.log.now.store.pipes in
+    let d' = c.rewrite_rewrite_groups.new.log.store.pipes in
     let same = done.others Append append_differs in
     rw c.in-RenewGroups.is (record {
-      files = renewed_groups c.rewrite_rewrite_groups.result c.in-RenewGroups.part c.args.groups.now.together c.args.tables.now c.rewrite_rewrite_groups.new.tables d.append d.rewrite d'.append d'.rewrite same done.emptied done.kept done.dropped done.span;
+      files = renewed_groups c.rewrite_rewrite_groups.result c.in-RenewGroups.part c.args.log.now.groups.together c.args.log.now.tables c.rewrite_rewrite_groups.new.log.tables d.append d.rewrite d'.append d'.rewrite same done.emptied done.kept done.dropped done.span;
       first = done.first;
       append = λ is. same;
       tables = done.only;
@@ -176,26 +176,26 @@ returns-in-RenewGroups-clause-together g c = c.rewrite_rewrite_groups.ensures.to
 pub returns-in-DropStale-clause-purges : goal.returns-in-DropStale-clause-purges
 returns-in-DropStale-clause-purges g c =
     let p = c.purge_all_stale.ensures.purges.drops in
-    let t = tables_of c.args.tables.now in
-    let met = known_groups c.args.groups.now in
-    let a = log_of c.args.pipes.now t (owed_of c.args.owed.now) met (g.F.FileSystem.directory c.args.file_system.now) in
-    let b = log_of c.purge_all_stale.new.pipes t (owed_of c.purge_all_stale.new.owed) met (g.F.FileSystem.directory c.purge_all_stale.new.file_system) in
+    let t = tables_of c.args.log.now.tables in
+    let met = known_groups c.args.log.now.groups in
+    let a = log_of c.args.log.now.store.pipes t (owed_of c.args.log.now.owed) met (g.F.FileSystem.directory c.args.log.now.store.file_system) in
+    let b = log_of c.purge_all_stale.new.store.pipes t (owed_of c.purge_all_stale.new.owed) met (g.F.FileSystem.directory c.purge_all_stale.new.store.file_system) in
     rw c.in-DropStale.is (record {
       log = p.log;
       value = p.value;
       front = p.front;
       cut = on_ok_weaker c.purge_all_stale.result (λ cut none. cut 0 (none_cut none)) p.cut;
-      holds = if_stands_map c.purge_all_stale.result (Unit {0} → KeepsLog a b) _ (λ keeps. ∥∥₁_elim c.requires.some (hlevel props) (λ x. rest_log a b c.args.cache.now (keeps tt) x.0 x.1 c.requires.holds)) p.log.now;
-      cause = IfErr-weaker c.purge_all_stale.result _ _ (stale_cause c.args.pipes.now c.purge_all_stale.new.pipes (tables_of c.args.tables.now) (tables_of c.args.tables.now) (owed_of c.args.owed.now) (known_groups c.args.groups.now) (g.F.FileSystem.directory c.args.file_system.now) (g.F.FileSystem.directory c.purge_all_stale.new.file_system) (g.F.FileSystem.refusals_of c.args.file_system.now) (g.F.FileSystem.refusals_of c.purge_all_stale.new.file_system)) p.cause;
+      holds = if_stands_map c.purge_all_stale.result (Unit {0} → KeepsLog a b) _ (λ keeps. ∥∥₁_elim c.requires.some (hlevel props) (λ x. rest_log a b c.args.log.now.cache (keeps tt) x.0 x.1 c.requires.holds)) p.log.now;
+      cause = IfErr-weaker c.purge_all_stale.result _ _ (stale_cause c.args.log.now.store.pipes c.purge_all_stale.new.store.pipes (tables_of c.args.log.now.tables) (tables_of c.args.log.now.tables) (owed_of c.args.log.now.owed) (known_groups c.args.log.now.groups) (g.F.FileSystem.directory c.args.log.now.store.file_system) (g.F.FileSystem.directory c.purge_all_stale.new.store.file_system) (g.F.FileSystem.refusals_of c.args.log.now.store.file_system) (g.F.FileSystem.refusals_of c.purge_all_stale.new.store.file_system)) p.cause;
     })
 
 pub returns-in-DropStale-clause-frees : goal.returns-in-DropStale-clause-frees
 returns-in-DropStale-clause-frees g c =
     let done = c.purge_all_stale.ensures in
-    let d = c.args.pipes.now in
-    let d' = c.purge_all_stale.new.pipes in
+    let d = c.args.log.now.store.pipes in
+    let d' = c.purge_all_stale.new.store.pipes in
     rw c.in-DropStale.is (record {
-      files = stale_files c.purge_all_stale.result c.args.groups.now.together c.args.tables.now d.append d.rewrite d'.append d'.rewrite (on_ok_weaker c.purge_all_stale.result (λ left. left.rotated) done.purges.files) (on_ok_weaker c.purge_all_stale.result (λ left. left.span) done.purges.files) done.old;
+      files = stale_files c.purge_all_stale.result c.args.log.now.groups.together c.args.log.now.tables d.append d.rewrite d'.append d'.rewrite (on_ok_weaker c.purge_all_stale.result (λ left. left.rotated) done.purges.files) (on_ok_weaker c.purge_all_stale.result (λ left. left.span) done.purges.files) done.old;
       first = on_err_of c.purge_all_stale.result _ done.purges.first;
       append = λ is. absurd (let clash : Append ≡ Rewrite = is in cc);
       tables = if_ok c.purge_all_stale.result _ tt;
@@ -237,11 +237,11 @@ returns-in-DropExpired-clause-frees g c =
 
 pub returns-in-RenewGroups-clause-goes : goal.returns-in-RenewGroups-clause-goes
 returns-in-RenewGroups-clause-goes g c =
-    let d' = c.rewrite_rewrite_groups.new.pipes in
-    let t' = tables_of c.rewrite_rewrite_groups.new.tables in
-    let met' = known_groups c.rewrite_rewrite_groups.new.groups in
-    let n' = g.F.FileSystem.directory c.rewrite_rewrite_groups.new.file_system in
-    rw c.in-RenewGroups.is (on_ok_weaker c.rewrite_rewrite_groups.result (λ goes. going_on c.in-RenewGroups.part c.args.pipes.now.rewrite c.args.groups.now d' t' met' n' goes) c.rewrite_rewrite_groups.ensures.goes)
+    let d' = c.rewrite_rewrite_groups.new.log.store.pipes in
+    let t' = tables_of c.rewrite_rewrite_groups.new.log.tables in
+    let met' = known_groups c.rewrite_rewrite_groups.new.log.groups in
+    let n' = g.F.FileSystem.directory c.rewrite_rewrite_groups.new.log.store.file_system in
+    rw c.in-RenewGroups.is (on_ok_weaker c.rewrite_rewrite_groups.result (λ goes. going_on c.in-RenewGroups.part c.args.log.now.store.pipes.rewrite c.args.log.now.groups d' t' met' n' goes) c.rewrite_rewrite_groups.ensures.goes)
 
 pub returns-in-RewriteAppend-clause-goes : goal.returns-in-RewriteAppend-clause-goes
 returns-in-RewriteAppend-clause-goes g c = rw c.in-RewriteAppend.is (if_ok c.rewrite_append_queue.result _ (λ files is. absurd (let clash : ◌≡◌ {A = Option NewFiles} None (Some files) = is in cc)))

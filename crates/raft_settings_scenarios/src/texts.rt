@@ -1,0 +1,223 @@
+//! Tables of settings, and what both readings make of them.
+
+use crate::documents::{Program, by_serde, by_table, document_of};
+use raft_config::{Config, RecoveryMode};
+use raft_records::{Fault, ReadableSize, Version};
+use raft_rows::{Row, rows_hold};
+use raft_settings::write;
+use std::alloc::Global;
+use std::test::Fail;
+
+/// The lines of a table, and a line of the text that is then written for the settings.
+struct Accepted(&'static str, &'static str);
+
+static ACCEPTED: [Accepted; 29] = [
+    Accepted("", "target-file-size = \"128MB\"\n"),
+    Accepted("", "recovery-mode = \"tolerate-corrupted-tail-records\"\n"),
+    Accepted("dir = \"a/b c\"", "dir = \"a/b c\"\n"),
+    Accepted("spill-dir = \"spill\"", "spill-dir = \"spill\"\n"),
+    Accepted(
+        "recovery-mode = \"absolute-consistency\"",
+        "recovery-mode = \"absolute-consistency\"\n",
+    ),
+    Accepted(
+        "recovery-mode = \"tolerate-tail-corruption\"",
+        "recovery-mode = \"tolerate-corrupted-tail-records\"\n",
+    ),
+    Accepted(
+        "recovery-mode = \"tolerate-corrupted-tail-records\"",
+        "recovery-mode = \"tolerate-corrupted-tail-records\"\n",
+    ),
+    Accepted(
+        "recovery-mode = \"tolerate-any-corruption\"",
+        "recovery-mode = \"tolerate-any-corruption\"\n",
+    ),
+    Accepted(
+        "recovery-read-block-size = \"1MB\"",
+        "recovery-read-block-size = \"1MB\"\n",
+    ),
+    Accepted(
+        "recovery-read-block-size = 512",
+        "recovery-read-block-size = \"512B\"\n",
+    ),
+    Accepted("recovery-threads = 0", "recovery-threads = 0\n"),
+    Accepted("recovery-threads = 16", "recovery-threads = 16\n"),
+    Accepted("bytes-per-sync = \"4MB\"", "bytes-per-sync = \"4MB\"\n"),
+    Accepted("bytes-per-sync = 4096", "bytes-per-sync = \"4KB\"\n"),
+    Accepted("format-version = 1", "format-version = 1\n"),
+    Accepted("format-version = 2", "format-version = 2\n"),
+    Accepted(
+        "target-file-size = 134217729",
+        "target-file-size = \"134217729B\"\n",
+    ),
+    Accepted("target-file-size = \"2GB\"", "target-file-size = \"2GB\"\n"),
+    Accepted("target-file-size = \"0\"", "target-file-size = \"0B\"\n"),
+    Accepted(
+        "purge-threshold = \"10240KB\"",
+        "purge-threshold = \"10MB\"\n",
+    ),
+    Accepted(
+        "purge-threshold = \"18446744073709551615\"",
+        "purge-threshold = \"18446744073709551615B\"\n",
+    ),
+    Accepted(
+        "purge-rewrite-threshold = \"1GB\"",
+        "purge-rewrite-threshold = \"1GB\"\n",
+    ),
+    Accepted(
+        "purge-rewrite-garbage-ratio = 250",
+        "purge-rewrite-garbage-ratio = 250\n",
+    ),
+    Accepted("memory-limit = 1073741824", "memory-limit = \"1GB\"\n"),
+    Accepted("enable-log-recycle = false", "enable-log-recycle = false\n"),
+    Accepted("prefill-for-recycle = true", "prefill-for-recycle = true\n"),
+    Accepted("prefill-limit = \"12GB\"", "prefill-limit = \"12GB\"\n"),
+    Accepted(
+        "batch-compression-threshold = \"8KB\"\ndir = \"a\"\ncompression-level = 0.5",
+        "dir = \"a\"\n",
+    ),
+    Accepted(
+        "dir = \"a\"\nrecovery-threads = 7\n[raft-engine.other]\ndir = \"b\"",
+        "recovery-threads = 7\n",
+    ),
+];
+
+impl Row for Accepted {
+    type State = ();
+
+    fn holds(&self, alloc: Global, _: &mut ()) -> Result<bool, Fault> {
+        let document = document_of(alloc, self.0)?;
+        let read = by_table(alloc, document.as_str())?;
+        let written = write(alloc, &read)?;
+        Ok(by_serde(alloc, document.as_str()) == Some(read) && written.contains(self.1))
+    }
+}
+
+#[test]
+fn both_read_the_same_settings(rt: HostRuntime) -> Result<(), Fail> {
+    rows_hold(rt.alloc(), &mut (), &ACCEPTED)
+}
+
+/// The lines of a table that both refuse, and why `raft_settings` does.
+struct Refused(&'static str, &'static str);
+
+static REFUSED: [Refused; 19] = [
+    Refused("dir", "the settings are not valid TOML"),
+    Refused(
+        "dir = \"a\"\ndir = \"a\"",
+        "the settings are not valid TOML",
+    ),
+    Refused(
+        "target-file-size = 9223372036854775808",
+        "the settings are not valid TOML",
+    ),
+    Refused("dir = 1", "dir"),
+    Refused("dir = [\"a\"]", "dir"),
+    Refused("spill-dir = true", "spill-dir"),
+    Refused("recovery-mode = \"tolerate\"", "recovery-mode"),
+    Refused("recovery-mode = 1", "recovery-mode"),
+    Refused("recovery-threads = -1", "recovery-threads"),
+    Refused("recovery-threads = \"4\"", "recovery-threads"),
+    Refused("format-version = 3", "format-version"),
+    Refused("format-version = \"2\"", "format-version"),
+    Refused("target-file-size = \"1.5GB\"", "target-file-size"),
+    Refused("target-file-size = \"1 GB\"", "target-file-size"),
+    Refused("target-file-size = -1", "target-file-size"),
+    Refused(
+        "purge-threshold = \"18446744073709551616\"",
+        "purge-threshold",
+    ),
+    Refused(
+        "purge-rewrite-garbage-ratio = 0.6",
+        "purge-rewrite-garbage-ratio",
+    ),
+    Refused("enable-log-recycle = 1", "enable-log-recycle"),
+    Refused("prefill-limit = \"\"", "prefill-limit"),
+];
+
+impl Row for Refused {
+    type State = ();
+
+    fn holds(&self, alloc: Global, _: &mut ()) -> Result<bool, Fault> {
+        let document = document_of(alloc, self.0)?;
+        let is_refused = match by_table(alloc, document.as_str()) {
+            Err(Fault::InvalidArgument(reason)) => reason == self.1,
+            _ => false,
+        };
+        Ok(is_refused && by_serde(alloc, document.as_str()).is_none())
+    }
+}
+
+#[test]
+fn both_refuse_the_same_settings(rt: HostRuntime) -> Result<(), Fail> {
+    rows_hold(rt.alloc(), &mut (), &REFUSED)
+}
+
+/// The lines of a table that `serde` accepts and `raft_settings` refuses, and why the latter does:
+/// a mode as a table whose key is its name, which is another form of an enum in `serde`.
+struct Different(&'static str, &'static str);
+
+static DIFFERENT: [Different; 1] = [Different(
+    "recovery-mode = { tolerate-any-corruption = {} }",
+    "recovery-mode",
+)];
+
+impl Row for Different {
+    type State = ();
+
+    fn holds(&self, alloc: Global, _: &mut ()) -> Result<bool, Fault> {
+        let document = document_of(alloc, self.0)?;
+        let is_refused = match by_table(alloc, document.as_str()) {
+            Err(Fault::InvalidArgument(reason)) => reason == self.1,
+            _ => false,
+        };
+        Ok(is_refused && by_serde(alloc, document.as_str()).is_some())
+    }
+}
+
+#[test]
+fn serde_accepts_more(rt: HostRuntime) -> Result<(), Fail> {
+    rows_hold(rt.alloc(), &mut (), &DIFFERENT)
+}
+
+fn all_set(alloc: Global) -> Result<Config, Fault> {
+    Ok(Config {
+        dir: String::from_str(alloc, "a")?,
+        spill_dir: Some(String::from_str(alloc, "b")?),
+        recovery_mode: RecoveryMode::AbsoluteConsistency,
+        recovery_read_block_size: ReadableSize(513),
+        recovery_threads: 3,
+        bytes_per_sync: Some(ReadableSize::kb(1)),
+        format_version: Version::V1,
+        target_file_size: ReadableSize::mb(2),
+        purge_threshold: ReadableSize::gb(3),
+        purge_rewrite_threshold: Some(ReadableSize(0)),
+        purge_rewrite_garbage_ratio: 1000,
+        memory_limit: Some(ReadableSize(u64::MAX)),
+        enable_log_recycle: false,
+        prefill_for_recycle: true,
+        prefill_limit: Some(ReadableSize::mb(1025)),
+    })
+}
+
+// Whether what `serde` writes of all settings is read as they are, by both.
+fn is_read_back(alloc: Global) -> Result<bool, Fault> {
+    let program = Program {
+        name: String::from_str(alloc, "store")?,
+        raft_engine: all_set(alloc)?,
+    };
+    let Ok(text) = toml::to_string(alloc, &program) else {
+        return Err(Fault::Memory);
+    };
+    let wanted = all_set(alloc)?;
+    let read = by_table(alloc, text.as_str())?;
+    Ok(read == wanted && by_serde(alloc, text.as_str()) == Some(wanted))
+}
+
+#[test]
+fn written_settings_are_read_back(rt: HostRuntime) {
+    assert!(rt;
+        matches!(is_read_back(rt.alloc()), Ok(true)),
+        "read otherwise"
+    );
+}
