@@ -81,7 +81,10 @@ struct Refused(&'static str, &'static str);
 
 static REFUSED: [Refused; 14] = [
     Refused("dir", "the settings are not valid TOML"),
-    Refused("dir = \"a\"\ndir = \"a\"\n", "the settings are not valid TOML"),
+    Refused(
+        "dir = \"a\"\ndir = \"a\"\n",
+        "the settings are not valid TOML",
+    ),
     Refused(
         "target-file-size = 9223372036854775808",
         "the settings are not valid TOML",
