@@ -116,6 +116,16 @@ fn begin_of(bytes: &[u8], part: Part) -> usize {
     }
 }
 
+// The record that was found, if it is one.
+fn record_in(found: Found) -> Option<WholeRecord> {
+    match found {
+        Found::Record(record) => Some(record),
+        Found::Unread(_gap) => None,
+        Found::Zeros(_len) => None,
+        Found::Stale(_len) => None,
+    }
+}
+
 impl Gathering {
     fn note_missing(&mut self, before: Option<FileId>, next: FileId) -> Result<()> {
         let Some(before) = before else {
@@ -153,14 +163,13 @@ impl Gathering {
         let begin = begin_of(bytes, source.part);
         let mut scanner = RecordScanner::new(self.alloc, bytes, signs, begin);
         for _ in 0..bytes.len() {
-            match scanner.next()? {
-                Some(Found::Record(record)) => {
-                    if let Some((group, mark)) = mark_of(&record.items) {
-                        self.marks.add(group, mark)?;
-                    }
+            let Some(found) = scanner.next()? else {
+                break;
+            };
+            if let Some(record) = record_in(found) {
+                if let Some((group, mark)) = mark_of(&record.items) {
+                    self.marks.add(group, mark)?;
                 }
-                Some(_) => {}
-                None => break,
             }
         }
         Ok(())
@@ -200,14 +209,13 @@ impl Gathering {
         let mut scanner = RecordScanner::new(self.alloc, bytes, signs, begin);
         for _ in 0..bytes.len() {
             let place = scanner.place() as u64;
-            match scanner.next()? {
-                Some(Found::Record(record)) => {
-                    if record.seq != source.id.seq {
-                        found.push((record.seq, place, record))?;
-                    }
+            let Some(next) = scanner.next()? else {
+                break;
+            };
+            if let Some(record) = record_in(next) {
+                if record.seq != source.id.seq {
+                    found.push((record.seq, place, record))?;
                 }
-                Some(_) => {}
-                None => break,
             }
         }
         Ok(())

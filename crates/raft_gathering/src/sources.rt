@@ -117,7 +117,7 @@ fn add_named(alloc: Global, folder: &str, name: &str, sources: &mut Vec<Source>)
     Ok(())
 }
 
-// Adds a file whose name tells a log file. What else stands behind that name is a copy, if the file is named.
+// Adds a file whose name begins with a log file's. What else follows that name is a copy, if the file is named.
 fn add_source(
     alloc: Global,
     name: String,
@@ -125,33 +125,44 @@ fn add_source(
     is_named: bool,
     sources: &mut Vec<Source>,
 ) -> Result<()> {
-    let file = match name.as_str().rsplit_once('/') {
-        Some((_, file)) => file,
-        None => name.as_str(),
-    };
-    let Some((own, suffix)) = file.split_at_checked(NAME_LEN) else {
-        return Ok(());
-    };
-    let Some(part) = part_of(suffix, is_named) else {
-        return Ok(());
-    };
-    for queue in &[LogQueue::Rewrite, LogQueue::Append] {
-        match log_file(alloc, "", own, *queue) {
-            Ok(Some(found)) => {
-                let id = found.id;
-                sources.push(Source {
-                    id,
-                    part,
-                    name,
-                    path,
-                })?;
-                return Ok(());
-            }
-            Ok(None) => {}
-            Err(fault) => bail!("{fault}"),
-        }
+    if let Some((id, part)) = read_name(alloc, name.as_str(), is_named)? {
+        sources.push(Source {
+            id,
+            part,
+            name,
+            path,
+        })?;
     }
     Ok(())
+}
+
+// The log file that a name begins with, and what follows that.
+fn read_name(alloc: Global, name: &str, is_named: bool) -> Result<Option<(FileId, Part)>> {
+    let file = match name.rsplit_once('/') {
+        Some((_, file)) => file,
+        None => name,
+    };
+    let Some((own, suffix)) = file.split_at_checked(NAME_LEN) else {
+        return Ok(None);
+    };
+    let Some(part) = part_of(suffix, is_named) else {
+        return Ok(None);
+    };
+    for queue in &[LogQueue::Rewrite, LogQueue::Append] {
+        if let Some(id) = id_of(alloc, own, *queue)? {
+            return Ok(Some((id, part)));
+        }
+    }
+    Ok(None)
+}
+
+// The queue's log file of this name.
+fn id_of(alloc: Global, name: &str, queue: LogQueue) -> Result<Option<FileId>> {
+    match log_file(alloc, "", name, queue) {
+        Ok(Some(found)) => Ok(Some(found.id)),
+        Ok(None) => Ok(None),
+        Err(fault) => bail!("{fault}"),
+    }
 }
 
 fn part_of(suffix: &str, is_named: bool) -> Option<Part> {
