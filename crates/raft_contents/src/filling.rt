@@ -208,10 +208,13 @@ impl Filling {
     /// Writes all that is left, and then the groups' numbers where they are greater than those that stand.
     pub fn finish<F: FileSystem>(&mut self, engine: &mut Engine<F>, sync: bool) -> Result<()> {
         self.write(engine)?;
-        for (group, number) in self.numbers.iter() {
-            let pair = (*group, *number);
-            if pair.1 > 0 {
-                if let Err(fault) = engine.write_once(&mut self.batch, &[pair], false) {
+        for _ in 0..self.numbers.len() {
+            let Some((group, number)) = self.numbers.pop_first() else {
+                break;
+            };
+            let pairs = [(group, number)];
+            if number > 0 {
+                if let Err(fault) = engine.write_once(&mut self.batch, &pairs, false) {
                     return Err(failure("a group's number cannot be written", &fault));
                 }
             }

@@ -152,6 +152,7 @@ fn fill<F: FileSystem>(
         Content::Entry(index, bytes) => filling.add_entry(engine, group, index, bytes),
         Content::Clean => filling.clean(engine, group),
         Content::Compact(index) => filling.compact(engine, group, index),
-        Content::Mark(_) | Content::Unread(_) => Ok(()),
+        Content::Mark(_mark) => Ok(()),
+        Content::Unread(_why) => Ok(()),
     }
 }

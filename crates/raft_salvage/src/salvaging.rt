@@ -71,17 +71,22 @@ fn check_target(rt: &HostRuntime, target: &str, part: &str) -> Result<()> {
     if stands(rt, part)? {
         bail!("{part}: a salvage that has not ended made it: remove it, and salvage again");
     }
-    if !stands(rt, target)? {
-        return Ok(());
-    }
-    let entries = match fs::read_dir(rt, target) {
-        Ok(entries) => entries,
-        Err(e) => return Err(anyhow!("{e}").context(format_args!("{target}"))),
-    };
-    for _entry in entries {
+    if stands(rt, target)? && !is_empty(rt, target)? {
         bail!("{target}: it isn't empty, and a salvage writes a new log: name another folder");
     }
     Ok(())
+}
+
+fn is_empty(rt: &HostRuntime, folder: &str) -> Result<bool> {
+    let entries = match fs::read_dir(rt, folder) {
+        Ok(entries) => entries,
+        Err(e) => return Err(anyhow!("{e}").context(format_args!("{folder}"))),
+    };
+    let mut count = 0u64;
+    for _entry in entries {
+        count = count.saturating_add(1);
+    }
+    Ok(count == 0)
 }
 
 fn stands(rt: &HostRuntime, path: &str) -> Result<bool> {
