@@ -21,11 +21,9 @@ mod spares;
 mod stat;
 mod stored;
 mod waiting;
-mod work;
 mod writing;
 
 pub use guard::note_left_out;
-pub use looks::{look, look_by};
-pub use opening::{config, open_image};
-pub use work::Work;
+pub use looks::look;
+pub use opening::config;
 pub use writing::{change, change_by};

@@ -8,11 +8,11 @@ use crate::opening::open_image;
 use crate::pictures::print_picture;
 use crate::stat::stat;
 use crate::stored::Total;
-use crate::work::Work;
 use crate::{entries, keys, numbered};
 use anyhow::{Result, anyhow};
 use raft_command_line::{Look, Request};
 use raft_console::{Output, Progress, Status, bytes_of, note_made};
+use raft_contents::sum;
 use raft_env::FileSystem;
 use raft_inspect::{Cut, Passed};
 use raft_log_engine::Engine;
@@ -42,21 +42,10 @@ pub fn look<R: Threads + Sync>(
     request: &Request<'_>,
     look: Look<'_>,
 ) -> Result<Status> {
-    look_by(rt, threads, request, look, &mut Sights { look })
-}
-
-/// The same; what a look finds in the open log is this work's affair.
-pub fn look_by<R: Threads + Sync, W: Work>(
-    rt: HostRuntime,
-    threads: &R,
-    request: &Request<'_>,
-    look: Look<'_>,
-    work: &mut W,
-) -> Result<Status> {
     let mut progress = Progress::new(rt, request.options.quiet)?;
     let mut out = Output::new(rt, &request.options);
     for _ in 0..TRIES {
-        let looked = look_once(rt, threads, request, look, work, &mut progress, &mut out)?;
+        let looked = look_once(rt, threads, request, look, &mut progress, &mut out)?;
         if let Some(status) = looked {
             out.print()?;
             return Ok(status);
@@ -68,12 +57,11 @@ pub fn look_by<R: Threads + Sync, W: Work>(
     ))
 }
 
-fn look_once<R: Threads + Sync, W: Work>(
+fn look_once<R: Threads + Sync>(
     rt: HostRuntime,
     threads: &R,
     request: &Request<'_>,
     look: Look<'_>,
-    work: &mut W,
     progress: &mut Progress,
     out: &mut Output,
 ) -> Result<Option<Status>> {
@@ -92,7 +80,15 @@ fn look_once<R: Threads + Sync, W: Work>(
     match read_all(&rt, folder, request, progress)? {
         Some(reading) => {
             progress.begin("the log is being opened in memory")?;
-            let status = show(&rt, threads, reading, request, look, work, out)?;
+            let status = show(
+                &rt,
+                threads,
+                reading.image,
+                reading.reserved,
+                request,
+                look,
+                out,
+            )?;
             Ok(Some(status))
         }
         None => Ok(None),
@@ -175,51 +171,29 @@ fn told_of(alloc: Global, cut: &Cut) -> Result<String, AllocError> {
 }
 
 // What is found in files that are all in memory.
-fn show<R: Threads + Sync, W: Work>(
+fn show<R: Threads + Sync, F: FileSystem + Drop>(
     rt: &HostRuntime,
     threads: &R,
-    reading: Reading,
+    mut image: F,
+    reserved: Total,
     request: &Request<'_>,
     look: Look<'_>,
-    work: &mut W,
     out: &mut Output,
 ) -> Result<Status> {
     let options = &request.options;
-    let Reading {
-        mut image,
-        reserved,
-    } = reading;
     match look {
         Look::Stat => stat(threads, rt.alloc(), image, reserved, options, out),
         Look::Picture => print_picture(rt, &mut image, request),
         _ => {
             let mut engine = open_image(threads, rt.alloc(), image, options)?;
-            let status = work.carry_out(rt, &mut engine, request, out);
+            let found = find(rt, &mut engine, request, look, out);
             engine.give_up();
-            status
+            if found? {
+                return Ok(Status::Done);
+            }
+            note_made(rt, options, told_absent(rt.alloc(), look))?;
+            Ok(Status::Absent)
         }
-    }
-}
-
-/// The looks of this crate.
-#[derive(Drop)]
-struct Sights<'a> {
-    look: Look<'a>,
-}
-
-impl Work for Sights<'_> {
-    fn carry_out<F: FileSystem>(
-        &mut self,
-        rt: &HostRuntime,
-        engine: &mut Engine<F>,
-        request: &Request<'_>,
-        out: &mut Output,
-    ) -> Result<Status> {
-        if find(rt, engine, request, self.look, out)? {
-            return Ok(Status::Done);
-        }
-        note_made(rt, &request.options, told_absent(rt.alloc(), self.look))?;
-        Ok(Status::Absent)
     }
 }
 
@@ -243,12 +217,11 @@ fn find<F: FileSystem>(
         Look::Entries(group, range) => entries::list(rt.alloc(), engine, group, range, out),
         Look::Groups => entries::groups(engine, out),
         Look::Verify(load) => numbered::verify(rt, engine, load, options.quiet, out),
+        Look::Sum(group, indexes) => {
+            sum(rt.alloc(), engine, group, indexes, out)?;
+            Ok(true)
+        }
         // Done before.
-        Look::Stat
-        | Look::Sum(_, _)
-        | Look::Dump(_)
-        | Look::Check
-        | Look::Consistency
-        | Look::Picture => Ok(true),
+        Look::Stat | Look::Dump(_) | Look::Check | Look::Consistency | Look::Picture => Ok(true),
     }
 }

@@ -109,7 +109,7 @@ fn empty_last<F: FileSystem>(
 }
 
 /// Opens a log in memory, which is looked at alone: no file is made ahead there.
-pub fn open_image<R: Threads + Sync, F: FileSystem + Drop>(
+pub(crate) fn open_image<R: Threads + Sync, F: FileSystem + Drop>(
     threads: &R,
     alloc: Global,
     image: F,

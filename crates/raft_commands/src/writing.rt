@@ -11,10 +11,10 @@ use crate::purging::purge;
 use crate::repair::repair;
 use crate::spares::make_ahead;
 use crate::waiting::open_folder;
-use crate::work::Work;
 use anyhow::{Result, anyhow};
 use raft_command_line::{Request, Verb};
 use raft_console::{Output, Progress, Status, bytes_of, or_failure};
+use raft_contents::{Material, truncate};
 use raft_env::FileSystem;
 use raft_log_engine::Engine;
 use raft_looks::Folder;
@@ -29,21 +29,21 @@ pub fn change<R: Threads + Sync>(
     threads: &R,
     request: &Request<'_>,
 ) -> Result<Status> {
-    change_by(rt, threads, request, &mut Verbs)
+    change_by(rt, threads, request, &mut Material::Request)
 }
 
-/// The same, of a command whose work on the open log is this.
-pub fn change_by<R: Threads + Sync, W: Work>(
+/// The same, of a command that writes what it has read elsewhere.
+pub fn change_by<R: Threads + Sync>(
     rt: HostRuntime,
     threads: &R,
     request: &Request<'_>,
-    work: &mut W,
+    material: &mut Material<'_>,
 ) -> Result<Status> {
     if request.options.changing.dry_run {
-        return change_image(rt, threads, request, work);
+        return change_image(rt, threads, request, material);
     }
     let files = open_folder(rt, request)?;
-    let changed = change_files(&rt, threads, files, request, work);
+    let changed = change_files(&rt, threads, files, request, material);
     if changed.is_err() {
         // What can't be told hides no error.
         let _ = tell_hindrances(rt, request);
@@ -60,16 +60,16 @@ fn tell_hindrances(rt: HostRuntime, request: &Request<'_>) -> Result<()> {
     Ok(())
 }
 
-fn change_image<R: Threads + Sync, W: Work>(
+fn change_image<R: Threads + Sync>(
     rt: HostRuntime,
     threads: &R,
     request: &Request<'_>,
-    work: &mut W,
+    material: &mut Material<'_>,
 ) -> Result<Status> {
     let folder = Folder::open(rt, request.folder, &request.options)?;
     let mut progress = Progress::new(rt, request.options.quiet)?;
     match folder.image(&mut progress)? {
-        Some(image) => change_files(&rt, threads, image, request, work),
+        Some(image) => change_files(&rt, threads, image, request, material),
         None => Err(anyhow!(
             "{}: files were dropped while they were read",
             request.folder
@@ -77,12 +77,12 @@ fn change_image<R: Threads + Sync, W: Work>(
     }
 }
 
-fn change_files<R: Threads + Sync, F: FileSystem + ChangedFiles + Drop, W: Work>(
+fn change_files<R: Threads + Sync, F: FileSystem + ChangedFiles + Drop>(
     rt: &HostRuntime,
     threads: &R,
     mut files: F,
     request: &Request<'_>,
-    work: &mut W,
+    material: &mut Material<'_>,
 ) -> Result<Status> {
     let mut out = Output::new(*rt, &request.options);
     if let Verb::Repair = &request.verb {
@@ -97,7 +97,7 @@ fn change_files<R: Threads + Sync, F: FileSystem + ChangedFiles + Drop, W: Work>
     }
     let changed = match &request.verb {
         Verb::Purge(which) => purge(rt, threads, files, *which, &request.options, &mut out),
-        _ => change_log(rt, threads, files, request, work, &mut out),
+        _ => change_log(rt, threads, files, request, material, &mut out),
     };
     match changed {
         Ok(status) => {
@@ -112,16 +112,16 @@ fn change_files<R: Threads + Sync, F: FileSystem + ChangedFiles + Drop, W: Work>
     }
 }
 
-fn change_log<R: Threads + Sync, F: FileSystem + ChangedFiles + Drop, W: Work>(
+fn change_log<R: Threads + Sync, F: FileSystem + ChangedFiles + Drop>(
     rt: &HostRuntime,
     threads: &R,
     files: F,
     request: &Request<'_>,
-    work: &mut W,
+    material: &mut Material<'_>,
     out: &mut Output,
 ) -> Result<Status> {
     let mut engine = open(rt, threads, files, &request.options)?;
-    match work.carry_out(rt, &mut engine, request, out) {
+    match work_on(rt, &mut engine, request, material, out) {
         Ok(status) => {
             if request.sync {
                 close(rt, engine)?;
@@ -137,20 +137,21 @@ fn change_log<R: Threads + Sync, F: FileSystem + ChangedFiles + Drop, W: Work>(
     }
 }
 
-/// The commands of this crate.
-#[derive(Drop)]
-struct Verbs;
-
-impl Work for Verbs {
-    fn carry_out<F: FileSystem>(
-        &mut self,
-        rt: &HostRuntime,
-        engine: &mut Engine<F>,
-        request: &Request<'_>,
-        out: &mut Output,
-    ) -> Result<Status> {
-        carry_out(rt, engine, request, out)?;
-        Ok(Status::Done)
+// Writes the material, or does what the request says.
+fn work_on<F: FileSystem>(
+    rt: &HostRuntime,
+    engine: &mut Engine<F>,
+    request: &Request<'_>,
+    material: &mut Material<'_>,
+    out: &mut Output,
+) -> Result<Status> {
+    match material {
+        Material::Lines(lines) => lines.write(rt, engine, request, out),
+        Material::Tables(tables) => tables.write(rt, engine, request),
+        Material::Request => {
+            carry_out(rt, engine, request, out)?;
+            Ok(Status::Done)
+        }
     }
 }
 
@@ -190,6 +191,9 @@ fn carry_out<F: FileSystem>(
             )
         }
         Verb::Compact(group, index) => compact(engine, *group, *index, request.sync, out),
+        Verb::Truncate(group, index) => {
+            truncate(rt.alloc(), engine, *group, *index, request.sync, out)
+        }
         Verb::Clean(group) => clean(rt, engine, *group, request.sync),
         Verb::Load(numbers) => load(rt, engine, *numbers, &request.options),
         // Done elsewhere.
@@ -198,7 +202,6 @@ fn carry_out<F: FileSystem>(
         | Verb::Settings
         | Verb::Fork(_)
         | Verb::Look(_)
-        | Verb::Truncate(_, _)
         | Verb::Import(_)
         | Verb::Salvage(_) => Ok(()),
     }

@@ -4,7 +4,6 @@ use crate::filling::Filling;
 use crate::line_items::{Content, LineItem, Place, marks_of, read_items};
 use anyhow::Result;
 use raft_command_line::{Import, Request};
-use raft_commands::{Work, change_by};
 use raft_console::{Output, Progress, Status, file_or_input, note_made, or_failure};
 use raft_env::FileSystem;
 use raft_inspect::{Filter, ItemKind, Word};
@@ -12,41 +11,9 @@ use raft_log_engine::Engine;
 use raft_records::Fault;
 use raft_whole_records::Marks;
 use std::mem;
-use std::thread::Threads;
 
-/// Writes the batches of lines that `dump --json` printed, one for each record, in their order, and prints how many
-/// items they have. Nothing is written where a line can't be read. Where a line says that a file could not be read on,
-/// that is told, and the status is 4.
-pub fn import_lines<R: Threads + Sync>(
-    rt: HostRuntime,
-    threads: &R,
-    request: &Request<'_>,
-    import: Import<'_>,
-) -> Result<Status> {
-    let alloc = rt.alloc();
-    let path = import.file.unwrap_or("-");
-    let items = {
-        let text = file_or_input(&rt, path)?;
-        match read_items(alloc, &text) {
-            Ok(items) => items,
-            Err(error) => return Err(error.context(path)),
-        }
-    };
-    let marks = marks_of(alloc, &items)?;
-    let mut work = LineImport {
-        items,
-        marks,
-        filter: Filter {
-            group: import.group,
-            kind: import.kind.and_then(ItemKind::named),
-            from: None,
-            to: None,
-        },
-    };
-    change_by(rt, threads, request, &mut work)
-}
-
-struct LineImport {
+/// Items of lines, and which of them are written.
+pub struct LineImport {
     items: Vec<LineItem>,
     marks: Marks,
     filter: Filter,
@@ -63,8 +30,28 @@ impl Drop for LineImport {
     }
 }
 
-impl Work for LineImport {
-    fn carry_out<F: FileSystem>(
+impl LineImport {
+    /// The lines of a file that `dump --json` printed, or of standard input. It fails at the first line that can't be
+    /// read, and says which.
+    pub fn read(rt: &HostRuntime, import: Import<'_>) -> Result<LineImport> {
+        let path = import.file.unwrap_or("-");
+        let text = file_or_input(rt, path)?;
+        match read_items(rt.alloc(), &text) {
+            Ok(items) => {
+                let marks = marks_of(rt.alloc(), &items)?;
+                Ok(LineImport {
+                    items,
+                    marks,
+                    filter: filter_of(import),
+                })
+            }
+            Err(error) => Err(error.context(path)),
+        }
+    }
+
+    /// Writes the batches of the lines, one for each record, in their order, and prints how many items they have. If a
+    /// line says that a file could not be read further, that is told, and the status is 4. The items are gone then.
+    pub fn write<F: FileSystem>(
         &mut self,
         rt: &HostRuntime,
         engine: &mut Engine<F>,
@@ -90,6 +77,16 @@ impl Work for LineImport {
             return Ok(Status::WouldCut);
         }
         Ok(Status::Done)
+    }
+}
+
+/// Which items an import writes.
+pub fn filter_of(import: Import<'_>) -> Filter {
+    Filter {
+        group: import.group,
+        kind: import.kind.and_then(ItemKind::named),
+        from: None,
+        to: None,
     }
 }
 

@@ -1,14 +1,17 @@
-//! Commands of raftctl on a log's contents: its sum, entries that are removed from an index on, and batches that are
-//! imported from lines.
+//! What raftctl does with the contents of an open log: sums, entries that are removed from an index on, and items of lines
+//! or of other files that are written.
 #![tactic(auto)]
 
 mod filling;
 mod import;
 mod line_items;
+mod material;
 mod sum;
+mod tables;
 mod truncate;
 
-pub use filling::Filling;
-pub use import::import_lines;
+pub use import::{LineImport, filter_of};
+pub use material::Material;
 pub use sum::sum;
+pub use tables::TableImport;
 pub use truncate::truncate;

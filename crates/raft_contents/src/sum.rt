@@ -1,35 +1,14 @@
 //! Checksums of what a log holds.
 
 use anyhow::Result;
-use raft_command_line::{Indexes, Look, Request};
-use raft_commands::{Work, look_by};
-use raft_console::{Output, Status, or_failure};
+use raft_command_line::Indexes;
+use raft_console::{Output, or_failure};
 use raft_env::FileSystem;
 use raft_inspect::Word;
 use raft_log_engine::Engine;
 use raft_records::Fault;
 use raft_sum::{GroupSum, LogSum};
 use std::alloc::{AllocError, Global};
-use std::thread::Threads;
-
-/// Prints a line for each group that has entries or keys: how many, and their checksum; and one for all groups. With a
-/// group it prints that one alone, and with indexes the checksum of its entries between them.
-pub fn sum<R: Threads + Sync>(
-    rt: HostRuntime,
-    threads: &R,
-    request: &Request<'_>,
-    group: Option<u64>,
-    indexes: Indexes,
-) -> Result<Status> {
-    let look = Look::Sum(group, indexes);
-    look_by(rt, threads, request, look, &mut Sum { group, indexes })
-}
-
-#[derive(Drop)]
-struct Sum {
-    group: Option<u64>,
-    indexes: Indexes,
-}
 
 /// What was summed of a group.
 #[derive(Clone, Copy)]
@@ -39,44 +18,35 @@ struct Summed {
     sum: [u8; 32],
 }
 
-impl Work for Sum {
-    fn carry_out<F: FileSystem>(
-        &mut self,
-        rt: &HostRuntime,
-        engine: &mut Engine<F>,
-        _request: &Request<'_>,
-        out: &mut Output,
-    ) -> Result<Status> {
-        let alloc = rt.alloc();
-        if let Some(group) = self.group {
-            let summed = or_failure(
-                sum_group(engine, group, self.indexes),
-                "it cannot be summed",
-            )?;
-            add_line(alloc, group, summed, out)?;
-            return Ok(Status::Done);
-        }
-        let groups = or_failure(engine.raft_groups(), "the groups cannot be listed")?;
-        let mut all = LogSum::new();
-        let mut count = 0u64;
-        for group in groups {
-            let summed = or_failure(
-                sum_group(engine, group, self.indexes),
-                "it cannot be summed",
-            )?;
-            if summed.entries > 0 || summed.keys > 0 {
-                count = count.saturating_add(1);
-                all.add_group(summed.sum.as_slice());
-                add_line(alloc, group, summed, out)?;
-            }
-        }
-        let sum = digits(alloc, &all.finish())?;
-        out.named(&[
-            ("groups", Word::Number(count)),
-            ("sum", Word::Text(sum.as_str())),
-        ])?;
-        Ok(Status::Done)
+/// Prints a line for each group that has entries or keys: how many, and their checksum; and one for all groups. With a
+/// group it prints that one alone, and with indexes the checksum of its entries between them.
+pub fn sum<F: FileSystem>(
+    alloc: Global,
+    engine: &mut Engine<F>,
+    group: Option<u64>,
+    indexes: Indexes,
+    out: &mut Output,
+) -> Result<()> {
+    if let Some(group) = group {
+        let summed = or_failure(sum_group(engine, group, indexes), "it cannot be summed")?;
+        return add_line(alloc, group, summed, out);
     }
+    let groups = or_failure(engine.raft_groups(), "the groups cannot be listed")?;
+    let mut all = LogSum::new();
+    let mut count = 0u64;
+    for group in groups {
+        let summed = or_failure(sum_group(engine, group, indexes), "it cannot be summed")?;
+        if summed.entries > 0 || summed.keys > 0 {
+            count = count.saturating_add(1);
+            all.add_group(summed.sum.as_slice());
+            add_line(alloc, group, summed, out)?;
+        }
+    }
+    let sum = digits(alloc, &all.finish())?;
+    out.named(&[
+        ("groups", Word::Number(count)),
+        ("sum", Word::Text(sum.as_str())),
+    ])
 }
 
 fn add_line(alloc: Global, group: u64, summed: Summed, out: &mut Output) -> Result<()> {

@@ -1,51 +1,29 @@
 //! Entries that are removed from an index on, as a Raft node does where its log differs from the leader's.
 
 use anyhow::Result;
-use raft_command_line::Request;
-use raft_commands::{Work, change_by};
-use raft_console::{Output, Status, or_failure};
+use raft_console::{Output, or_failure};
 use raft_env::FileSystem;
 use raft_inspect::Word;
 use raft_log_engine::{Engine, LogBatch};
 use raft_records::{EntryIndex, Fault};
 use std::alloc::Global;
-use std::thread::Threads;
 
 /// Removes the entries of a group from an index on, in one batch, and prints how many they were and the last index
-/// that stays. A dry run does it in memory.
-pub fn truncate<R: Threads + Sync>(
-    rt: HostRuntime,
-    threads: &R,
-    request: &Request<'_>,
+/// that stays.
+pub fn truncate<F: FileSystem>(
+    alloc: Global,
+    engine: &mut Engine<F>,
     group: u64,
     index: u64,
-) -> Result<Status> {
-    change_by(rt, threads, request, &mut Truncation { group, index })
-}
-
-#[derive(Drop)]
-struct Truncation {
-    group: u64,
-    index: u64,
-}
-
-impl Work for Truncation {
-    fn carry_out<F: FileSystem>(
-        &mut self,
-        rt: &HostRuntime,
-        engine: &mut Engine<F>,
-        request: &Request<'_>,
-        out: &mut Output,
-    ) -> Result<Status> {
-        let (group, index) = (self.group, self.index);
-        let removed = truncated(rt.alloc(), engine, group, index, request.sync);
-        let removed = or_failure(removed, "the group cannot be truncated")?;
-        let removed = ("removed", Word::Number(removed));
-        match engine.last_index(group) {
-            Some(last) => out.named(&[removed, ("last", Word::Number(last))])?,
-            None => out.named(&[removed])?,
-        }
-        Ok(Status::Done)
+    sync: bool,
+    out: &mut Output,
+) -> Result<()> {
+    let removed = truncated(alloc, engine, group, index, sync);
+    let removed = or_failure(removed, "the group cannot be truncated")?;
+    let removed = ("removed", Word::Number(removed));
+    match engine.last_index(group) {
+        Some(last) => out.named(&[removed, ("last", Word::Number(last))]),
+        None => out.named(&[removed]),
     }
 }
 

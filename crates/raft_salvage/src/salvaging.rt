@@ -1,10 +1,10 @@
 //! Whole records of damaged files, in a new log.
 
-use crate::writing::Writing;
 use anyhow::{Result, anyhow, bail};
 use raft_command_line::{Request, Salvage, Verb};
 use raft_commands::change_by;
 use raft_console::{Output, Status};
+use raft_contents::{Material, TableImport};
 use raft_gathering::{Gathering, gather, print_groups, sources_of};
 use raft_inspect::Filter;
 use std::fs::{self, File};
@@ -44,12 +44,12 @@ pub fn salvage<R: Threads + Sync>(
     let mut options = request.options;
     options.spill = None;
     let target = Request::new(part.as_str(), options, Verb::Settings, false);
-    let mut writing = Writing {
+    let mut material = Material::Tables(TableImport {
         tables: &gathering.tables,
         filter: Filter::ALL,
         status,
-    };
-    let status = change_by(rt, threads, &target, &mut writing)?;
+    });
+    let status = change_by(rt, threads, &target, &mut material)?;
     match name_target(&rt, asked.target, part.as_str()) {
         Ok(()) => Ok(status),
         Err(e) => Err(anyhow!("{e}").context(format_args!(

@@ -1,13 +1,23 @@
 //! The contents of another log's folder, written to this one with its settings.
 
-use crate::writing::Writing;
 use anyhow::{Result, bail};
 use raft_command_line::{Import, Request};
 use raft_commands::change_by;
 use raft_console::{Output, Status, tell};
+use raft_contents::{LineImport, Material, TableImport, filter_of};
 use raft_gathering::{Gathering, Part, Source, gather, sources_of};
-use raft_inspect::{Filter, ItemKind};
 use std::thread::Threads;
+
+/// Writes the batches of lines that `dump --json` printed, in their order. Nothing is written if a line can't be read.
+pub fn import_lines<R: Threads + Sync>(
+    rt: HostRuntime,
+    threads: &R,
+    request: &Request<'_>,
+    import: Import<'_>,
+) -> Result<Status> {
+    let mut material = Material::Lines(LineImport::read(&rt, import)?);
+    change_by(rt, threads, request, &mut material)
+}
 
 /// Writes what another folder's log files stand for, whose entries may be compressed by LZ4. Where more of them can't
 /// be read than the end of a queue, nothing is done without `--cut`, and the status is 7; where the end of a queue
@@ -29,17 +39,12 @@ pub fn import_folder<R: Threads + Sync>(
     let Some(status) = judge(rt, request, folder, &gathering)? else {
         return Ok(Status::Refused);
     };
-    let mut writing = Writing {
+    let mut material = Material::Tables(TableImport {
         tables: &gathering.tables,
-        filter: Filter {
-            group: import.group,
-            kind: import.kind.and_then(ItemKind::named),
-            from: None,
-            to: None,
-        },
+        filter: filter_of(import),
         status,
-    };
-    change_by(rt, threads, request, &mut writing)
+    });
+    change_by(rt, threads, request, &mut material)
 }
 
 // The sources are in the order of their numbers.

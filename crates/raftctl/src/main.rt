@@ -3,12 +3,11 @@
 
 use anyhow::{Result, bail};
 use clap::Error;
-use raft_command_line::{Look, Request, Verb, completion_script, parse};
+use raft_command_line::{Request, Verb, completion_script, parse};
 use raft_commands::{change, look};
 use raft_console::{Status, print_bytes, take_closed_streams, tell};
-use raft_contents::{import_lines, sum, truncate};
 use raft_offline::{fork_folder, print_settings, settings_of};
-use raft_salvage::{import_folder, salvage};
+use raft_salvage::{import_folder, import_lines, salvage};
 use std::env;
 use std::process::ExitCode;
 use std::thread::Threads;
@@ -80,11 +79,9 @@ fn run<R: Threads + Sync>(rt: HostRuntime, threads: &R, request: Request<'_>) ->
     let settings = settings_of(&rt, &request)?;
     let request = request.over(&settings);
     match &request.verb {
-        Verb::Look(Look::Sum(group, indexes)) => sum(rt, threads, &request, *group, *indexes),
         Verb::Look(what) => look(rt, threads, &request, *what),
         Verb::Settings => print_settings(&rt, &request.options),
         Verb::Fork(target) => fork_folder(rt, &request, target),
-        Verb::Truncate(group, index) => truncate(rt, threads, &request, *group, *index),
         Verb::Import(import) => match import.folder {
             Some(folder) => import_folder(rt, threads, &request, *import, folder),
             None => import_lines(rt, threads, &request, *import),
