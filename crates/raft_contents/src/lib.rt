@@ -6,12 +6,12 @@ mod filling;
 mod import;
 mod line_items;
 mod material;
-mod sum;
+mod summing;
 mod tables;
-mod truncate;
+mod truncating;
 
 pub use import::{LineImport, filter_of};
 pub use material::Material;
-pub use sum::sum;
+pub use summing::sum;
 pub use tables::TableImport;
-pub use truncate::truncate;
+pub use truncating::truncate;
