@@ -163,7 +163,7 @@ module _ {F H R W : Type 0} {g : Ghosts F H R W} where
         begun = read.begun;
         others = λ path other reserved. ap (λ (n : Directory). file_at n path) read.files;
         passed = λ queue path over. ap (λ (n : Directory). file_at n path) read.files;
-        still = λ stands. subst (λ (d : DualState). StayPassedOver old.pipes d) (sym read.pipes) (λ queue path over. over);
+        still = λ stands. subst (λ (d : DualState). StayPassedOver old.log.store.pipes d) (sym read.pipes) (λ queue path over. over);
         together = ap (λ (m : Memory). m.groups.together) read.memory;
       })
       (inl (refl, refl, read.state))

@@ -62,7 +62,7 @@ module _ {F H R W : Type 0} {g : Ghosts F H R W} where
   pub close_refused : {code : ℤ} (e : Engine F H R W g) (r : Refused F) → code ≡ pos (fault_code r.fault) → RecoversContents (folders_of e) (durable_of e) (unsynced_of e) (g.directory r.file_system)
       → MovesBy g.directory g.moments g.refusals_of (λ _. LeavesAllowed (folders_of e) (durable_of e) (unsynced_of e)) e.log.store.file_system r.file_system → ((r.fault ≡ fault.Failed) ↔ (has_failed e ≡ true))
       → (has_failed e ≡ false → FailsCountedAt (NamesLog (folders_of e)) (refusals_of e) (g.refusals_of r.file_system) r.fault) → (has_failed e ≡ true → OnlyReads g.directory g.moments g.refusals_of e.log.store.file_system r.file_system)
-      → LeavesOtherFiles (folders_of e) (directory_of e) (g.directory r.file_system) → LeavesPassedOver e.pipes (directory_of e) (g.directory r.file_system) → IsClosedAs code e r.file_system
+      → LeavesOtherFiles (folders_of e) (directory_of e) (g.directory r.file_system) → LeavesPassedOver e.log.store.pipes (directory_of e) (g.directory r.file_system) → IsClosedAs code e r.file_system
   close_refused {code} e r is keeps moments told by same others passed = record {
     ok = λ done. absurd (refuses done);
     err = λ other. record { fails = r.fault; code_is = is; cause = for_fault (has_failed e) (FailsCountedAt (NamesLog (folders_of e)) (refusals_of e) (g.refusals_of r.file_system)) r.fault told by; keeps = keeps };

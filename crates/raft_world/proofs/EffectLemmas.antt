@@ -1,8 +1,7 @@
 -- Each call has its effect, by its own clauses.
 use Rattle.std.proofs.Common.{◌≡◌, ◌⊎◌, ◌∙◌, ◌++◌, ◌∷◌, ℕ, true, false, Bool, List, [], append-nil, refl, sym, ap, subst, inl, inr}
-use Rattle.std.specs.Prelude.{◌↔◌, Result, Ok, Err, IfErr, IfOk, IsErrAnd, Vec, is_none, is_ok, if◌then◌else◌}
+use Rattle.std.specs.Prelude.{Result, Ok, Err, is_none, is_ok, if◌then◌else◌}
 use Rattle.std.specs.List.{AllByRecursion}
-use Rattle.std.specs.declared.alloc.Global.{Global}
 use Rattle.std.proofs.lemmas.Bool.{cases_Bool}
 use Rattle.raft_base.specs.declared.errors.Fault.{Fault}
 use Rattle.raft_base.specs.declared.errors.Fault.TheVariants as fault
@@ -16,7 +15,7 @@ use Rattle.raft_crash_laws.specs.Contents.{found_contents}
 use Rattle.raft_crash_laws.specs.Crash.{LeavesAllowed, RecoversContents, pending_of, written_batch}
 use Rattle.raft_log_engine.specs.Advance.{Advances, ChangesOnlyItsLog, state_of}
 use Rattle.raft_log_engine.specs.Calls.{IsWrite}
-use Rattle.raft_log_engine.specs.Cause.{plain_part, plain_parts}
+use Rattle.raft_log_engine.specs.Cause.{plain_part}
 use Rattle.raft_log_engine.specs.Durability.{Durability, Progresses, StaysFailed, accepted_by, covered_by, durability_of}
 use Rattle.raft_log_engine.specs.Engine.{begun_of, contents_of, directory_of, durable_of, folders_of, found_of, has_failed, moments_of, queue_of, target_size_of, unsynced_of}
 use Rattle.raft_log_engine.specs.Group.{LeavesChoice, chosen_of, group_state_of}

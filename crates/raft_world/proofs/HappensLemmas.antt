@@ -1,7 +1,7 @@
 -- What a log keeps, whatever happens.
 use Rattle.std.proofs.Common.{◌≡◌, ◌⊎◌, ◌∙◌, ◌++◌, ◌∷◌, ℕ, zero, suc, true, false, Bool, List, [], append-nil, append_assoc, inl, inr, refl, sym, ap, subst}
 use Rattle.std.proofs.lemmas.Bool.{cases_Bool}
-use Rattle.std.specs.Prelude.{Option, Some, None, Result, Ok, Err, take}
+use Rattle.std.specs.Prelude.{Result, Ok, Err, take}
 use Rattle.std.specs.List.{AllByRecursion}
 use Rattle.std.proofs.Props.{props}
 use Rattle.std.proofs.Math.Logic.{∥∥₁_elim, ∥∥₁_map, ∥∥₁_prop}
@@ -15,15 +15,12 @@ use Rattle.raft_env.specs.Moments.{HoldsThroughout}
 use Rattle.raft_env.specs.Refusal.{FailsAt, Refusals}
 use Rattle.raft_env.specs.declared.env.FileSystem.{Ghosts}
 use Rattle.raft_config.specs.Folders.{Folders, folders_in}
-use Rattle.raft_config.specs.Sanitized.{IsContradiction, contradiction}
-use Rattle.raft_config.specs.declared.config.Config.{Config}
-use Rattle.raft_pipes.specs.Folder.{AreClear, HasNoLog}
+use Rattle.raft_config.specs.Sanitized.{IsContradiction}
 use Rattle.raft_config.specs.declared.config.RecoveryMode.{RecoveryMode}
 use Rattle.raft_config.specs.declared.config.RecoveryMode.TheVariants.{AbsoluteConsistency}
-use Rattle.raft_files.specs.Records.{as_it_is}
 use Rattle.raft_crash_laws.specs.Contents.{contents_at}
 use Rattle.raft_crash_laws.specs.Crash.{IsAllowedFrom, LeavesAllowed, RecoversContents, StillRecovers, contents_after_crash}
-use Rattle.raft_crash_laws.specs.Queues.{AreDetectableIn, AreOpenableIn, AreSingleIn, IsOpeningRefusal}
+use Rattle.raft_crash_laws.specs.Queues.{AreOpenableIn, IsOpeningRefusal}
 use Rattle.raft_log_engine.specs.Durability.{Durability, after_call, durability_of}
 use Rattle.raft_log_engine.specs.Engine.{base_of, contents_of, directory_of, durable_of, folders_of, found_of, has_failed, moments_of, unsynced_of}
 use Rattle.raft_log_engine.specs.Group.{LeavesChoice, chosen_of}

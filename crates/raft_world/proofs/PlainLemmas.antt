@@ -1,5 +1,5 @@
 -- Batches that may be written one after the other: those without numbers, and those of a write that acts once.
-use Rattle.std.proofs.Common.{◌≡◌, ◌∙◌, ◌++◌, ◌∷◌, ℕ, true, false, Bool, List, [], append-nil, refl, sym, ap, subst, inl, inr}
+use Rattle.std.proofs.Common.{◌≡◌, ◌∙◌, ◌++◌, ◌∷◌, ℕ, true, false, Bool, List, [], append-nil, refl, ap, inl, inr}
 use Rattle.std.specs.Prelude.{Result, Ok, Err, is_none, if◌then◌else◌, map}
 use Rattle.std.specs.List.{AllByRecursion}
 use Rattle.raft_base.specs.declared.errors.Fault.{Fault}
