@@ -63,28 +63,38 @@ fn digits(alloc: Global, bytes: &[u8]) -> Result<String, AllocError> {
     hex::encode(alloc, bytes)
 }
 
-// Keys count where no index is named.
+/// A sum under way.
+#[derive(Drop)]
+struct Summing {
+    sum: GroupSum,
+    entries: u64,
+    keys: u64,
+}
+
+impl Summing {
+    fn add_pair(&mut self, key: &[u8], value: &[u8]) -> bool {
+        self.keys = self.keys.saturating_add(1);
+        self.sum.add_pair(key, value);
+        true
+    }
+}
+
+// Keys count if no index is named.
 fn sum_group<F: FileSystem>(
     engine: &mut Engine<F>,
     group: u64,
     indexes: Indexes,
 ) -> Result<Summed, Fault> {
-    let mut sum = GroupSum::new(group);
-    let entries = add_entries(engine, group, indexes, &mut sum)?;
-    let mut keys = 0u64;
+    let mut summing = Summing {
+        sum: GroupSum::new(group),
+        entries: 0,
+        keys: 0,
+    };
+    add_entries(engine, group, indexes, &mut summing)?;
     if indexes.from.is_none() && indexes.to.is_none() {
-        engine.scan_raw_messages(
-            group,
-            None,
-            None,
-            false,
-            &mut |key: &[u8], value: &[u8]| {
-                keys = keys.saturating_add(1);
-                sum.add_pair(key, value);
-                true
-            },
-        )?;
+        add_keys(engine, group, &mut summing)?;
     }
+    let Summing { sum, entries, keys } = summing;
     Ok(Summed {
         entries,
         keys,
@@ -92,21 +102,34 @@ fn sum_group<F: FileSystem>(
     })
 }
 
+fn add_keys<F: FileSystem>(
+    engine: &Engine<F>,
+    group: u64,
+    summing: &mut Summing,
+) -> Result<(), Fault> {
+    engine.scan_raw_messages(
+        group,
+        None,
+        None,
+        false,
+        &mut |key: &[u8], value: &[u8]| summing.add_pair(key, value),
+    )
+}
+
 fn add_entries<F: FileSystem>(
     engine: &mut Engine<F>,
     group: u64,
     indexes: Indexes,
-    sum: &mut GroupSum,
-) -> Result<u64, Fault> {
+    summing: &mut Summing,
+) -> Result<(), Fault> {
     let (Some(first), Some(last)) = (engine.first_index(group), engine.last_index(group)) else {
-        return Ok(0);
+        return Ok(());
     };
-    let mut count = 0u64;
     for index in indexes.from.unwrap_or(first).max(first)..=indexes.to.unwrap_or(last).min(last) {
         if let Some(place) = engine.load_entry(group, index)? {
-            sum.add_entry(index, engine.loaded(place));
-            count = count.saturating_add(1);
+            summing.sum.add_entry(index, engine.loaded(place));
+            summing.entries = summing.entries.saturating_add(1);
         }
     }
-    Ok(count)
+    Ok(())
 }
