@@ -1,8 +1,8 @@
 /* raftlog: a log for many Raft groups, in a folder. Batches of entries, keys and values are appended to one shared
- * log, synced if that is asked for, and found again after a crash.
+ * log, synced on request, and found again after a crash.
  *
- * Results. A function that returns an `int` returns RAFTLOG_OK (0) if it is done, RAFTLOG_ABSENT (20) if what was
- * asked for does not exist, and else the code of a failure, whose text `raftlog_message` returns. Each call may fail
+ * Results. A function that returns an `int` returns RAFTLOG_OK (0) if it is done, RAFTLOG_ABSENT (20) if the
+ * requested value does not exist, and else the code of a failure, whose text `raftlog_message` returns. Each call may fail
  * as RAFTLOG_INVALID for a NULL that must not be one, as RAFTLOG_NO_MEMORY, and as RAFTLOG_FAILED if the log has
  * failed before; the comment on a call names its other failures. A failure loses nothing that was done before. A
  * change that is refused leaves the log's contents as they are. If the log fails in a change (RAFTLOG_IO,
@@ -26,7 +26,7 @@
  * `raftlog_close` there frees memory alone. The child does not keep the parent's folder locked. Its own logs are as
  * any.
  *
- * Folders. The log holds its folder open until the close, and reaches its files through it: so it goes on in its own
+ * Folders. The log holds its folder open until the close, and reaches its files through it: so it continues in its own
  * folder if the folder is moved, if another one gets its name, or if the program changes its working directory. A link
  * that leads to the folder is followed once, at the opening; below the folder no link is followed. The folder is
  * locked by its file LOCK and, if the file system can do that, by itself. Before the log makes, renames or deletes a
@@ -38,10 +38,10 @@
  * taken in the order in which they came. The thread of the first one that waits carries out a round: the changes that
  * wait, and those that come before the round's sync. Each is done or refused by itself, after those before it. Then
  * all their changes of files are made, with one sync at the end if a change that is done asked for a sync. Then each
- * call returns. So threads that write at the same time share a sync, and a change that comes alone has a round of its
- * own.
+ * call returns. So threads that write at the same time share a sync, and a single change has its own
+ * round.
  *   A round has at most RAFTLOG_ROUND_CHANGES changes, and RAFTLOG_ROUND_BYTES bytes of batches or one batch that is
- * longer. A purge is a round of its own.
+ * longer. A purge has its own round.
  *   A write without a sync that comes while a sync runs waits for the sync, since changes of files are made in turn:
  * after a crash no write is found without those before it.
  *   If a change of a file or the sync fails, or there is no memory for one, each change of the round fails as
@@ -59,12 +59,12 @@
  * after each RAFTLOG_MOVED_BYTES, or after a group that has more. `raftlog_must_rewrite_append_groups` and
  * `raftlog_must_rewrite_rewrite_groups` let in writes too.
  *
- * What is proved, of the functions below these (crates/raft_c): of each code, what the log has done and what it
- * contains then; of a failure, why it comes; and that at each moment inside a call a crash leaves what was synced
- * before. Trusted are the files beside this one: that they let in one call of the proved part at a time, with valid
- * pointers and an open log; that their prototypes of the proved functions are right; and that each change of a file
- * that a call ordered is carried out, in turn, before that call or a read that saw it returns, or else the failure is
- * reported to the proved part and to each caller of the round. clients/README.md has the whole list. */
+ * Proved, for the functions below these (crates/raft_c): for each code, what the log has done and its contents then;
+ * for a failure, its cause; and that at each moment inside a call a crash leaves everything that was synced before. The
+ * files beside this one are trusted. They let in one call of the proved part at a time, with valid pointers and an open
+ * log, and their prototypes of the proved functions are right. They carry out each change of a file that a call
+ * ordered, in turn, before that call or a read that saw it returns. If they can't, they report the failure to the
+ * proved part and to each caller of the round. clients/README.md has the whole list. */
 #ifndef RAFTLOG_H
 #define RAFTLOG_H
 
@@ -114,7 +114,7 @@ enum {
     RAFTLOG_LZ4 = 13,
     /* Some numbers of a write are greater than those that their groups keep, and others are not. */
     RAFTLOG_STALE_NUMBER = 18,
-    /* What was asked for does not exist. */
+    /* The requested value does not exist. */
     RAFTLOG_ABSENT = 20,
     /* The folder is open already. The text names the process, if the system tells it. */
     RAFTLOG_IN_USE = 30,
@@ -262,7 +262,7 @@ int raftlog_expect_reads(raftlog *log, bool at_random);
 /* ---- batches */
 
 /* Returns a batch without items, or NULL if there is no memory. A batch is written as a whole or not at all. It is the
- * caller's until `raftlog_batch_free`. Adding copies what is added, and fails as RAFTLOG_NO_MEMORY, RAFTLOG_RANGE
+ * caller's until `raftlog_batch_free`. Adding copies its arguments, and fails as RAFTLOG_NO_MEMORY, RAFTLOG_RANGE
  * (2^59 bytes), or RAFTLOG_INVALID for a NULL with a length; then the batch is as it was. */
 raftlog_batch *raftlog_batch_new(void);
 /* NULL is ignored, here and by the next call. */
@@ -295,7 +295,7 @@ int raftlog_write(raftlog *log, raftlog_batch *batch, bool sync);
 /* Writes a batch that acts once, however often it is written: with it each of the groups gets the number beside it,
  * and keeps the number until the group is cleaned. Each number must be greater than the one that its group keeps; a
  * group that keeps none counts as 0. If none of the numbers is greater, the batch was written before: nothing is
- * written, and the call returns RAFTLOG_OK, after a sync if that was asked for. It fails as `raftlog_write`, as
+ * written, and the call returns RAFTLOG_OK, after a sync if requested. It fails as `raftlog_write`, as
  * RAFTLOG_INVALID if there are no groups or a group is given twice, and as RAFTLOG_STALE_NUMBER. After RAFTLOG_IO,
  * RAFTLOG_FAILED or RAFTLOG_NO_MEMORY write it again when the log is open again. */
 int raftlog_write_once(raftlog *log, raftlog_batch *batch, const uint64_t *groups, const uint64_t *numbers, size_t count,

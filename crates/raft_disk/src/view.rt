@@ -33,8 +33,8 @@ impl FolderView {
             Ok(root) => root,
             Err(e) => return Err(OpenFault::at(alloc, path, e)),
         };
-        check_mark(&rt, root.at())?;
-        check_lock(&rt, root.at())?;
+        check_mark(&rt, &root)?;
+        check_lock(&rt, &root)?;
         let lock = match open_lock(&rt, &root) {
             Ok(lock) => lock,
             Err(e) => return Err(OpenFault::Lock(String::from_str(alloc, root.path())?, e)),

@@ -135,4 +135,4 @@ module _ {F H R W : Type 0} (g : Ghosts F H R W) (folders : Folders) (laws : Cra
   numbered _ _ (KilledInOpening files l answer later before opens moment clean) = numbered (Down files) l before
 
   pub acts_once : OnceLaw → (w : Node g folders) (l : Ledger) → Happens g folders true w l → ActsOnce l
-  acts_once once w l happened = ∥∥₁_elim (numbered w l happened) ∥∥₁_prop (λ is. ∥∥₁_map is.all (λ (acts, are, may). (acts, are, λ group. once l.start group acts may)))
+  acts_once once w l happened = ∥∥₁_elim (numbered w l happened) ∥∥₁_prop (λ is. ∥∥₁_map is.all (λ (acts, are, may). (acts, are, may, λ group. once l.start group acts may)))
