@@ -34,7 +34,7 @@ LOOKS = [
 ]
 # What each of them ends with in the whole folder, and in one that is broken in its third file.
 WHOLE = [0, 3, 0, 0, 0, 0, 3, 0, 0, 0, 0, 0, 0, 0, 0, 0, 0, 0, 0, 0]
-BROKEN = [1, 1, 1, 1, 1, 1, 1, 1, 1, 1, 4, 4, 5, 5, 4, 1, 0, 1, 0, 1]
+BROKEN = [1, 1, 1, 1, 1, 1, 1, 1, 1, 1, 4, 4, 5, 5, 4, 1, 0, 1, 5, 1]
 
 
 class Tests(Losses, Calls, Streams):
@@ -372,7 +372,7 @@ class Tests(Losses, Calls, Streams):
         live = sum(it["live"] for it in told["by-group"])
         self.expect("its live bytes", live == told["live"] == sum(it["live"] for it in told["by-file"]) > KEYS * 40)
         ran = subprocess.run([self.program, "--version"], capture_output=True, timeout=20)
-        self.expect("the version", ran.returncode == 0 and b"0.1.0" in ran.stdout and b"commit unknown" in ran.stdout)
+        self.expect("the version", ran.returncode == 0 and b"0.2.0" in ran.stdout and b"commit unknown" in ran.stdout)
         stamped = os.path.join(self.work, "stamped")
         subprocess.run([sys.executable, STAMP, self.program, stamped], check=True)
         ran = subprocess.run([stamped, "--version"], capture_output=True, timeout=20)

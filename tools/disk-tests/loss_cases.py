@@ -189,7 +189,8 @@ class Losses:
         before = state_of(folder)
         ran = self.run(folder, "repair", "--cut", env=self.calling(FAIL=f"open:2:{errno.EIO}"))
         self.expect(f"what can't be kept stays: {ran.stderr}", ran.returncode == 1 and state_of(folder) == before)
-        ran = self.run(folder, "repair", "--cut", env=self.calling(FAIL=f"rename:2:{errno.EIO}"))
+        # The first renaming gives what is kept its name.
+        ran = self.run(folder, "repair", "--cut", env=self.calling(FAIL=f"rename:3:{errno.EIO}"))
         aside = f"{1:016}.raftlog.passed"
         self.expect(f"what was moved is told: {ran.stderr}", ran.returncode == 1 and aside.encode() in ran.stderr)
         self.expect("it stands there", os.path.exists(os.path.join(folder, aside)))

@@ -1,10 +1,12 @@
 //! The command line.
 
 use crate::change_forms::CHANGE_FORMS;
-use crate::forms::{CHANGE_OPTIONS, Form, Kind, LookSort, OPTIONS, STATUSES, Sort, Word};
+use crate::forms::{CHANGE_OPTIONS, EACH, Form, Kind, LookSort, OPTIONS, STATUSES, Sort, Word};
 use crate::look_forms::LOOK_FORMS;
 use crate::modes::mode_named;
-use crate::request::{Changing, Dump, Indexes, Load, Look, Options, Purge, Range, Request, Verb};
+use crate::request::{
+    Changing, Dump, Import, Indexes, Load, Look, Options, Purge, Range, Request, Salvage, Verb,
+};
 use clap::error::ErrorKind;
 use clap::{Arg, ArgAction, ArgMatches, Command, Error, value_parser};
 use raft_base::ReadableSize;
@@ -13,7 +15,7 @@ use std::alloc::{AllocError, Global};
 
 /// The project's, that of the crate whose files it reads and writes, and room for a commit, which `tools/stamp` writes
 /// into a copy of the program.
-const VERSION: &str = "0.1.0 (the files of raft-engine 0.4.2), \
+const VERSION: &str = "0.2.0 (the files of raft-engine 0.4.2), \
     commit unknown                                 ";
 
 /// What a line's kind may be, as `dump` prints it.
@@ -109,7 +111,8 @@ fn read_changing(matches: &ArgMatches<'_>) -> Changing {
     }
 }
 
-fn read_dump<'a>(alloc: Global, matches: &ArgMatches<'a>) -> Result<Dump<'a>, Error> {
+// The kind of items that is named, if one is.
+fn read_kind<'a>(alloc: Global, matches: &ArgMatches<'a>) -> Result<Option<&'a str>, Error> {
     let kind = matches.get_str("kind");
     if let Some(word) = kind {
         if !KINDS.contains(&word) {
@@ -117,12 +120,47 @@ fn read_dump<'a>(alloc: Global, matches: &ArgMatches<'a>) -> Result<Dump<'a>, Er
             return Err(wrong(alloc, "--kind", word, wanted));
         }
     }
+    Ok(kind)
+}
+
+fn read_dump<'a>(alloc: Global, matches: &ArgMatches<'a>) -> Result<Dump<'a>, Error> {
     Ok(Dump {
         file: matches.get_str("FILE"),
         group: matches.get_one("group"),
-        kind,
+        kind: read_kind(alloc, matches)?,
         from: matches.get_one("from"),
         to: matches.get_one("to"),
+    })
+}
+
+fn read_import<'a>(alloc: Global, matches: &ArgMatches<'a>) -> Result<Import<'a>, Error> {
+    let file = matches.get_str("FILE");
+    let folder = matches.get_str("from-folder");
+    if let (Some(word), Some(_)) = (file, folder) {
+        return Err(wrong(alloc, "FILE", word, "left out beside --from-folder"));
+    }
+    Ok(Import {
+        file,
+        folder,
+        spill: matches.get_str("from-spill"),
+        group: matches.get_one("group"),
+        kind: read_kind(alloc, matches)?,
+    })
+}
+
+fn read_salvage<'a>(
+    alloc: Global,
+    matches: &ArgMatches<'a>,
+    whole: &mut bool,
+) -> Result<Salvage<'a>, Error> {
+    let files = match matches.get_strs("FILE") {
+        Some(files) => files.to_vec(alloc)?,
+        None => Vec::new(alloc),
+    };
+    Ok(Salvage {
+        target: text(matches, "TARGET", whole),
+        files,
+        stale: matches.get_flag("stale"),
     })
 }
 
@@ -189,19 +227,53 @@ fn text<'a>(matches: &ArgMatches<'a>, name: &str, whole: &mut bool) -> &'a str {
     }
 }
 
+// The number of a group; none if each line of a file begins with its group.
+fn read_group(
+    alloc: Global,
+    matches: &ArgMatches<'_>,
+    whole: &mut bool,
+) -> Result<Option<u64>, Error> {
+    let word = text(matches, "GROUP", whole);
+    if word == EACH {
+        return Ok(None);
+    }
+    match word.parse() {
+        Ok(group) => Ok(Some(group)),
+        Err(_) => Err(wrong(alloc, "GROUP", word, "a number or `each`")),
+    }
+}
+
+fn read_lines<'a>(
+    alloc: Global,
+    matches: &ArgMatches<'a>,
+    whole: &mut bool,
+) -> Result<Verb<'a>, Error> {
+    let group = read_group(alloc, matches, whole)?;
+    let file = text(matches, "FILE", whole);
+    if matches.get_flag("entries") {
+        Ok(Verb::EntryLines(group, file))
+    } else {
+        Ok(Verb::Lines(group, file))
+    }
+}
+
 fn read_append<'a>(
     alloc: Global,
     matches: &ArgMatches<'a>,
     whole: &mut bool,
 ) -> Result<Verb<'a>, Error> {
-    let group = number(matches, "GROUP", whole);
+    let group = read_group(alloc, matches, whole)?;
     let lines = matches.get_str("lines");
     let values = match matches.get_strs("VALUE") {
         Some(values) => values.to_vec(alloc)?,
         None if lines.is_some() => Vec::new(alloc),
         None => return Err(wrong(alloc, "VALUE", "", "wanted, or --lines FILE")),
     };
-    Ok(Verb::Append(group, values, lines, matches.get_one("at")))
+    let at = matches.get_one("at");
+    if group.is_none() && (at.is_some() || !values.is_empty()) {
+        return Err(wrong(alloc, "GROUP", EACH, "a number beside VALUE or --at"));
+    }
+    Ok(Verb::Append(group, values, lines, at))
 }
 
 fn read_verb<'a>(
@@ -216,18 +288,14 @@ fn read_verb<'a>(
             text(matches, "KEY", whole),
             text(matches, "VALUE", whole),
         ),
-        Sort::Lines => {
-            let group = number(matches, "GROUP", whole);
-            let file = text(matches, "FILE", whole);
-            if matches.get_flag("entries") {
-                Verb::EntryLines(group, file)
-            } else {
-                Verb::Lines(group, file)
-            }
-        }
+        Sort::Lines => read_lines(alloc, matches, whole)?,
         Sort::Delete => Verb::Delete(number(matches, "GROUP", whole), text(matches, "KEY", whole)),
         Sort::Append => read_append(alloc, matches, whole)?,
         Sort::Compact => Verb::Compact(
+            number(matches, "GROUP", whole),
+            number(matches, "INDEX", whole),
+        ),
+        Sort::Truncate => Verb::Truncate(
             number(matches, "GROUP", whole),
             number(matches, "INDEX", whole),
         ),
@@ -236,8 +304,10 @@ fn read_verb<'a>(
         Sort::Rewrite => Verb::Purge(read_purge(alloc, matches)?),
         Sort::Purge => Verb::Purge(Purge::Expired),
         Sort::Repair => Verb::Repair,
+        Sort::Import => Verb::Import(read_import(alloc, matches)?),
         Sort::Settings => Verb::Settings,
         Sort::Fork => Verb::Fork(text(matches, "TARGET", whole)),
+        Sort::Salvage => Verb::Salvage(read_salvage(alloc, matches, whole)?),
         Sort::Dump => Verb::Look(Look::Dump(read_dump(alloc, matches)?)),
         Sort::Look(look) => Verb::Look(read_look(look, matches, whole)),
     };
@@ -256,6 +326,7 @@ fn read_look<'a>(sort: LookSort, matches: &ArgMatches<'a>, whole: &mut bool) -> 
         LookSort::Entries => Look::Entries(number(matches, "GROUP", whole), read_indexes(matches)),
         LookSort::Groups => Look::Groups,
         LookSort::Stat => Look::Stat,
+        LookSort::Sum => Look::Sum(matches.get_one("GROUP"), read_indexes(matches)),
         LookSort::Check => Look::Check,
         LookSort::Consistency => Look::Consistency,
         LookSort::Picture => Look::Picture,

@@ -1,8 +1,10 @@
 //! The commands that change a log, as rows of a table.
 
-use crate::forms::{COUNT, DRY_RUN, Form, GROUP, KEY, Kind, NO_SYNC, SIZE, Sort, Word};
+use crate::forms::{
+    COUNT, DRY_RUN, Form, GROUP, GROUP_OR_EACH, KEY, KIND, Kind, NO_SYNC, SIZE, Sort, Word,
+};
 
-pub(crate) static CHANGE_FORMS: [Form; 10] = [
+pub(crate) static CHANGE_FORMS: [Form; 12] = [
     Form {
         name: "put",
         sort: Sort::Put,
@@ -24,7 +26,7 @@ pub(crate) static CHANGE_FORMS: [Form; 10] = [
         sort: Sort::Lines,
         about: "Puts the keys and values of a file of lines, each a key, a tab and a value; with --entries adds its entries",
         words: &[
-            GROUP,
+            GROUP_OR_EACH,
             Word("FILE", Kind::Text, "The file; - for standard input"),
             Word(
                 "entries",
@@ -47,7 +49,7 @@ pub(crate) static CHANGE_FORMS: [Form; 10] = [
         sort: Sort::Append,
         about: "Adds entries to a group, syncs them, and prints the first and the last index of them",
         words: &[
-            GROUP,
+            GROUP_OR_EACH,
             Word(
                 "VALUE",
                 Kind::OptionalTexts,
@@ -77,6 +79,45 @@ pub(crate) static CHANGE_FORMS: [Form; 10] = [
             NO_SYNC,
         ],
         example: "Example: raftctl log compact 1 5",
+    },
+    Form {
+        name: "truncate",
+        sort: Sort::Truncate,
+        about: "Removes the entries of a group from an index on, syncs that, and prints how many and the last index that stays",
+        words: &[
+            GROUP,
+            Word("INDEX", Kind::Number, "The first index that is removed"),
+            NO_SYNC,
+            DRY_RUN,
+        ],
+        example: "Example: raftctl log truncate 1 5 --dry-run",
+    },
+    Form {
+        name: "import",
+        sort: Sort::Import,
+        about: "Writes the batches that `dump --json` printed, in their order; or the contents of another log, whose entries may be compressed by LZ4; status 4 if that log's end could not be read",
+        words: &[
+            Word(
+                "FILE",
+                Kind::OptionalText,
+                "The file of lines; - or no word for standard input",
+            ),
+            Word(
+                "from-folder",
+                Kind::NamedText,
+                "The folder of another log, whose contents are written with this log's settings",
+            ),
+            Word(
+                "from-spill",
+                Kind::NamedText,
+                "The second folder of that log, by its path from the first one",
+            ),
+            Word("group", Kind::Named, "The items of this group alone"),
+            KIND,
+            NO_SYNC,
+            DRY_RUN,
+        ],
+        example: "Example: raftctl old dump --json | raftctl new import --group 1",
     },
     Form {
         name: "clean",

@@ -8,16 +8,32 @@ use std::alloc::{AllocError, Global};
 /// What stands before the words of the commands, and behind them.
 const FRONT: &str = "\
 # Completion of raftctl for bash: eval \"$(raftctl --completion)\"
+# zsh takes the same line after: autoload -U +X bashcompinit && bashcompinit
+_raftctl_names() {
+    local name
+    COMPREPLY=()
+    while IFS= read -r name; do COMPREPLY+=(\"$name\"); done < <(compgen \"$1\" -- \"$2\")
+    compopt -o filenames 2>/dev/null
+}
 _raftctl() {
-    local word=${COMP_WORDS[COMP_CWORD]} words=
+    local word=${COMP_WORDS[COMP_CWORD]} before=${COMP_WORDS[COMP_CWORD-1]} words=
     if [ \"$COMP_CWORD\" -eq 1 ]; then
-        COMPREPLY=($(compgen -d -- \"$word\"))
+        _raftctl_names -d \"$word\"
         return
     fi
     if [ \"$COMP_CWORD\" -eq 2 ]; then
         COMPREPLY=($(compgen -W \"";
 
 const MIDDLE: &str = "\" -- \"$word\"))
+        return
+    fi
+    case $before in
+    --mode) words=\"absolute tail any\" ;;
+    --kind) words=\"put delete entry clean compact\" ;;
+    rewrite) words=\"append rewrite stale\" ;;
+    esac
+    if [ -n \"$words\" ]; then
+        COMPREPLY=($(compgen -W \"$words\" -- \"$word\"))
         return
     fi
     case ${COMP_WORDS[2]} in
@@ -27,7 +43,7 @@ const END: &str = "\
     esac
     case $word in
     -*) COMPREPLY=($(compgen -W \"$words\" -- \"$word\")) ;;
-    *) COMPREPLY=($(compgen -f -- \"$word\")) ;;
+    *) _raftctl_names -f \"$word\" ;;
     esac
 }
 complete -F _raftctl raftctl

@@ -18,13 +18,16 @@ pub(crate) enum Sort {
     Delete,
     Append,
     Compact,
+    Truncate,
     Clean,
     Load,
     Rewrite,
     Purge,
     Repair,
+    Import,
     Settings,
     Fork,
+    Salvage,
     Dump,
     Look(LookSort),
 }
@@ -39,6 +42,7 @@ pub(crate) enum LookSort {
     Entries,
     Groups,
     Stat,
+    Sum,
     Check,
     Consistency,
     Picture,
@@ -74,9 +78,10 @@ Statuses:
   2  the command line can't be read
   3  get, entry: no such key or entry; verify: a key after a gap, or with another value;
      consistency: a group's entries have a hole
-  4  check: an opening would cut something off; dump: a file can't be read on
-  5  check: an opening would fail
-  6  check: an opening would pass files over, or leave out those of a folder
+  4  check, consistency, fork: an opening would cut something off; dump: a file can't be read on;
+     import, salvage: not all of the source could be read
+  5  check, consistency, fork: an opening would fail
+  6  check, consistency, fork: an opening would pass files over, or leave out those of a folder
   7  a change was refused, and nothing done: its opening would lose more than an unsynced tail
      explains; look with check, cut and keep with repair, or say --cut
 
@@ -138,6 +143,21 @@ pub(crate) static CHANGE_OPTIONS: [Word; 3] = [
 ];
 
 pub(crate) const GROUP: Word = Word("GROUP", Kind::Number, "The number of the group");
+
+/// The word in a group's place if each line of a file begins with its group.
+pub(crate) const EACH: &str = "each";
+
+pub(crate) const GROUP_OR_EACH: Word = Word(
+    "GROUP",
+    Kind::Text,
+    "The number of the group; `each` if each line begins with its group",
+);
+
+pub(crate) const KIND: Word = Word(
+    "kind",
+    Kind::NamedText,
+    "The items of this kind alone: put, delete, entry, clean or compact",
+);
 
 pub(crate) const KEY: Word = Word("KEY", Kind::Text, "The key; @FILE for the bytes of a file");
 

@@ -12,4 +12,6 @@ mod request;
 pub use arguments::parse;
 pub use completion::completion_script;
 pub use modes::{mode_name, mode_named};
-pub use request::{Changing, Dump, Indexes, Load, Look, Options, Purge, Range, Request, Verb};
+pub use request::{
+    Changing, Dump, Import, Indexes, Load, Look, Options, Purge, Range, Request, Salvage, Verb,
+};

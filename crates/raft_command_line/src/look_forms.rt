@@ -1,8 +1,10 @@
 //! The commands that leave a log as it is, as rows of a table.
 
-use crate::forms::{COUNT, Form, GROUP, KEY, Kind, LIMIT, LookSort, RAW, SIZE, Sort, Word};
+use crate::forms::{
+    COUNT, DRY_RUN, Form, GROUP, KEY, KIND, Kind, LIMIT, LookSort, RAW, SIZE, Sort, Word,
+};
 
-pub(crate) static LOOK_FORMS: [Form; 14] = [
+pub(crate) static LOOK_FORMS: [Form; 16] = [
     Form {
         name: "get",
         sort: Sort::Look(LookSort::Get),
@@ -83,6 +85,21 @@ pub(crate) static LOOK_FORMS: [Form; 14] = [
         example: "Example: raftctl log stat --json",
     },
     Form {
+        name: "sum",
+        sort: Sort::Look(LookSort::Sum),
+        about: "Prints a checksum (SHA-256) of each group's entries and keys and one of all groups; equal contents have equal sums, however their files are laid out",
+        words: &[
+            Word("GROUP", Kind::Optional, "This group alone"),
+            Word(
+                "FROM",
+                Kind::Optional,
+                "The first index; then no keys are summed",
+            ),
+            Word("TO", Kind::Optional, "The last index; else the group's"),
+        ],
+        example: "Example: raftctl log sum 1 100 200",
+    },
+    Form {
         name: "dump",
         sort: Sort::Dump,
         about: "Prints a line for each item of the log files; status 4 where one can't be read on",
@@ -93,11 +110,7 @@ pub(crate) static LOOK_FORMS: [Form; 14] = [
                 "The items of this file alone; with a `/` the path of a log file anywhere",
             ),
             Word("group", Kind::Named, "The items of this group alone"),
-            Word(
-                "kind",
-                Kind::NamedText,
-                "The items of this kind alone: put, delete, entry, clean or compact",
-            ),
+            KIND,
             Word(
                 "from",
                 Kind::Named,
@@ -121,7 +134,7 @@ pub(crate) static LOOK_FORMS: [Form; 14] = [
     Form {
         name: "consistency",
         sort: Sort::Look(LookSort::Consistency),
-        about: "Prints a line for each group whose entries have a hole, with the last index before the first one; status 3 where there is one",
+        about: "Prints a line for each group whose entries have a hole, with the last index before the first one; status 3 if there is one, and 4, 5 and 6 as check",
         words: &[],
         example: "Example: raftctl log consistency --json",
     },
@@ -149,12 +162,36 @@ pub(crate) static LOOK_FORMS: [Form; 14] = [
     Form {
         name: "fork",
         sort: Sort::Fork,
-        about: "Copies the log files that an opening keeps into a folder, and syncs them",
+        about: "Copies the log files that an opening keeps into a folder, and syncs them; statuses 4, 5 and 6 as check, if the copy is not the whole log",
         words: &[Word(
             "TARGET",
             Kind::Text,
             "The folder of the copy, which is made where it is missing; it may hold no log file",
         )],
         example: "Example: raftctl log fork copy",
+    },
+    Form {
+        name: "salvage",
+        sort: Sort::Salvage,
+        about: "Reads every whole record of the folder's files, also behind broken ones and in .cut-N and .passed files, into a new log; the folder stays as it is; status 4 if something could not be read",
+        words: &[
+            Word(
+                "TARGET",
+                Kind::Text,
+                "The folder of the new log, which may not exist or is empty",
+            ),
+            Word(
+                "FILE",
+                Kind::OptionalTexts,
+                "These files alone: names in the folder, or paths with a `/`",
+            ),
+            Word(
+                "stale",
+                Kind::Flag,
+                "Also takes records that an earlier use of a file left behind: they may bring back what was deleted",
+            ),
+            DRY_RUN,
+        ],
+        example: "Example: raftctl log salvage ../saved",
     },
 ];

@@ -67,22 +67,26 @@ impl Changing {
 #[derive(Drop)]
 pub enum Verb<'a> {
     Put(u64, &'a str, &'a str),
-    /// A file of lines, each a key, a tab and a value.
-    Lines(u64, &'a str),
-    /// A file of lines, each an index, a tab and a value.
-    EntryLines(u64, &'a str),
+    /// A file of lines, each a key, a tab and a value; if no group is named, each line begins with its group.
+    Lines(Option<u64>, &'a str),
+    /// A file of lines, each an index, a tab and a value, with groups as in `Lines`.
+    EntryLines(Option<u64>, &'a str),
     Delete(u64, &'a str),
-    /// Values of entries, a file whose lines are such, and the index of the first.
-    Append(u64, Vec<&'a str>, Option<&'a str>, Option<u64>),
+    /// Values of entries, a file whose lines are such, and the index of the first; groups as in `Lines`.
+    Append(Option<u64>, Vec<&'a str>, Option<&'a str>, Option<u64>),
     Compact(u64, u64),
+    /// The entries from an index on are removed.
+    Truncate(u64, u64),
     Clean(u64),
     Load(Load),
     Purge(Purge),
     Repair,
+    Import(Import<'a>),
     /// The settings in force.
     Settings,
     /// The folder of the copy.
     Fork(&'a str),
+    Salvage(Salvage<'a>),
     Look(Look<'a>),
 }
 
@@ -99,6 +103,30 @@ pub enum Purge {
     Expired,
 }
 
+/// Where items are read from, and which of them are written to the log.
+#[derive(Clone, Copy)]
+pub struct Import<'a> {
+    /// A file of lines that `dump --json` printed; standard input if neither it nor a folder is named.
+    pub file: Option<&'a str>,
+    /// The folder of another log.
+    pub folder: Option<&'a str>,
+    /// The second folder of that log, by its path from the first.
+    pub spill: Option<&'a str>,
+    pub group: Option<u64>,
+    pub kind: Option<&'a str>,
+}
+
+/// Which records of the folder go where.
+#[derive(Drop)]
+pub struct Salvage<'a> {
+    /// The folder of the new log.
+    pub target: &'a str,
+    /// The files that are read; all of the folder if none is named.
+    pub files: Vec<&'a str>,
+    /// Whether records are taken that an earlier use of a file left behind.
+    pub stale: bool,
+}
+
 /// What to look at, without a change.
 #[derive(Clone, Copy)]
 pub enum Look<'a> {
@@ -110,6 +138,8 @@ pub enum Look<'a> {
     Entries(u64, Indexes),
     Groups,
     Stat,
+    /// A checksum of a group or of all, and of which entries.
+    Sum(Option<u64>, Indexes),
     Verify(Load),
     Dump(Dump<'a>),
     Check,

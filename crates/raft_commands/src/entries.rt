@@ -1,5 +1,6 @@
 //! Commands on the entries of a group, and on groups.
 use crate::changes::{Change, write};
+use crate::lines::Run;
 use anyhow::{Result, anyhow};
 use raft_c_batch::Entry;
 use raft_command_line::Indexes;
@@ -16,26 +17,48 @@ const PAGE_BYTES: usize = 1024 * 1024;
 /// A batch takes so many bytes of values, or one value that has more.
 const BATCH_BYTES: usize = 1024 * 1024;
 
-/// Adds entries with these values from an index on, or after the last, and prints their first and
-/// last index.
+/// Adds the entries of these runs, each from its index on or behind the group's last one, syncs with the last where
+/// that is asked, and prints their first and last index, behind the group if each line tells it.
 pub(crate) fn append<F: FileSystem>(
     alloc: Global,
     engine: &mut Engine<F>,
-    group: u64,
-    values: &[Vec<u8>],
-    at: Option<u64>,
+    runs: &[Run],
+    tells_group: bool,
     sync: bool,
     out: &mut Output,
 ) -> Result<()> {
-    if values.is_empty() {
+    if runs.is_empty() {
         return Err(anyhow!("there is no value to append"));
     }
-    let first = at.unwrap_or(behind(engine.last_index(group), 1));
-    if let Err(fault) = append_from(alloc, engine, group, first, values, sync) {
+    for (place, run) in runs.iter().enumerate() {
+        let is_last = place.saturating_add(1) == runs.len();
+        append_run(alloc, engine, run, tells_group, sync && is_last, out)?;
+    }
+    Ok(())
+}
+
+fn append_run<F: FileSystem>(
+    alloc: Global,
+    engine: &mut Engine<F>,
+    run: &Run,
+    tells_group: bool,
+    sync: bool,
+    out: &mut Output,
+) -> Result<()> {
+    let group = run.group;
+    if run.values.is_empty() {
+        return Err(anyhow!("there is no value to append"));
+    }
+    let first = run.first.unwrap_or(behind(engine.last_index(group), 1));
+    if let Err(fault) = append_from(alloc, engine, group, first, &run.values, sync) {
         return Err(failure("the entries cannot be appended", &fault));
     }
     let last = engine.last_index(group).unwrap_or(first);
-    out.line(&[("first", Word::Number(first)), ("last", Word::Number(last))])
+    let (first, last) = (("first", Word::Number(first)), ("last", Word::Number(last)));
+    if tells_group {
+        return out.line(&[("group", Word::Number(group)), first, last]);
+    }
+    out.line(&[first, last])
 }
 
 // Writes batches of entries, and syncs with the last.

@@ -5,7 +5,7 @@ use crate::kept::{free_name, keep};
 use crate::opening::config;
 use anyhow::{Result, anyhow};
 use raft_command_line::{Request, Verb};
-use raft_console::{failure, note_made};
+use raft_console::{failure, note_made, tell};
 use raft_dump::log_files;
 use raft_env::FileSystem;
 use raft_inspect::{Cut, Losses, Passed, Unexplained, queue_name};
@@ -19,8 +19,14 @@ const UNTOLD: &str = "a purge that was killed may have left them, or a file or a
     is missing: which of these can't be told";
 
 /// What is told where a change is refused.
-const REFUSED: &str = "nothing was done: `check` tells more, `repair` cuts and keeps what it cuts, \
-    `--cut` goes on";
+const REFUSED: &str =
+    "nothing was done: `check` tells more, `salvage` reads what can be read into a \
+    new log, `repair` cuts and keeps what it cuts, `--cut` goes on";
+
+/// The same for a repair, which is refused for files that it doesn't cut.
+const UNREPAIRED: &str =
+    "nothing was done: `check` tells more, `salvage` reads what can be read into a \
+    new log, `repair --cut` goes on and moves aside the files that are passed over";
 
 /// What an opening takes out of a log file.
 #[derive(Drop)]
@@ -68,10 +74,17 @@ fn refuse(
     request: &Request<'_>,
 ) -> Result<Option<Vec<Taken>>> {
     let folder = request.folder;
+    let json = request.options.json;
     for cause in causes {
-        eprintln!(rt; "raftctl: {folder}: {cause}")?;
+        let text = format!(in rt.alloc(); "{folder}: {cause}")?;
+        tell(rt, json, "error", text.as_str())?;
     }
-    eprintln!(rt; "raftctl: {folder}: {REFUSED}")?;
+    let remedy = match &request.verb {
+        Verb::Repair => UNREPAIRED,
+        _ => REFUSED,
+    };
+    let text = format!(in rt.alloc(); "{folder}: {remedy}")?;
+    tell(rt, json, "error", text.as_str())?;
     Ok(None)
 }
 
@@ -165,6 +178,10 @@ fn told_left_out(alloc: Global, left_out: &LeftOut) -> Result<String, AllocError
             "queue rewrite has no file, and each opening makes one: what was written there before \
             queue append began with number {first} is gone, or in a folder that isn't read"
         ),
+        LeftOut::Append(files) => format!(in alloc;
+            "queue append has no file, and each opening makes one: what was written there is gone, \
+            or in a folder that isn't read; queue rewrite has {files}"
+        ),
     }
 }
 
@@ -196,6 +213,9 @@ fn take<F: FileSystem + ChangedFiles>(
 ) -> Result<Option<Vec<Taken>>> {
     note_passed(rt, &losses.passed, request)?;
     note_left_out(rt, left_out, request)?;
+    if !losses.fails {
+        files.delete_unread(rt)?;
+    }
     let mut taken = Vec::new(rt.alloc());
     match take_each(rt, files, losses, request, &mut taken) {
         Ok(()) => Ok(Some(taken)),

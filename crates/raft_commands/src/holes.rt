@@ -5,7 +5,7 @@ use raft_command_line::Request;
 use raft_consistency::consistency_check_with_file_system;
 use raft_console::{Output, Progress, Status, failure, note};
 use raft_inspect::Word;
-use raft_looks::Folder;
+use raft_looks::{Folder, status_of_check};
 
 /// Prints a line for each group whose entries have a hole: it, and the last index before the first
 /// one; none where a file is there no more. An opening that tolerates all damage reads the files so.
@@ -25,11 +25,13 @@ pub(crate) fn print_holes(
         Err((fault, _)) => return Err(failure("the log cannot be looked through", &fault)),
     };
     add_holes(&holes, out)?;
-    if holes.is_empty() {
-        return Ok(Some(Status::Done));
+    if !holes.is_empty() {
+        note(rt, &request.options, "the entries of a group have a hole")?;
     }
-    note(rt, &request.options, "the entries of a group have a hole")?;
-    Ok(Some(Status::Absent))
+    match status_of_check(rt.alloc(), folder, &request.options, progress)? {
+        Some(Status::Done) if !holes.is_empty() => Ok(Some(Status::Absent)),
+        status => Ok(status),
+    }
 }
 
 fn add_holes(holes: &[(u64, u64)], out: &mut Output) -> Result<()> {

@@ -4,25 +4,19 @@ use anyhow::{Result, anyhow};
 use std::fs::{self, File};
 use std::io::{self, ErrorKind, Write};
 
-/// Makes a file of these bytes in a folder, under a name that nothing has, and syncs it. It answers
-/// the name.
+/// Makes a file of these bytes in a folder, under a name that nothing has, and syncs it. It returns
+/// the name, which the file gets once all its bytes are there.
 pub(crate) fn keep(rt: &HostRuntime, folder: &str, name: &str, bytes: &[u8]) -> Result<String> {
-    for turn in 1..=u64::MAX {
-        let free = turned(rt, name, turn)?;
-        let place = format!(in rt.alloc(); "{folder}/{free}")?;
-        match File::create_new(rt, place.as_str()) {
-            Ok(file) => match fill(rt, file, place.as_str(), bytes) {
-                Ok(()) => return Ok(free),
-                Err(e) => {
-                    let _ = fs::remove_file(rt, place.as_str());
-                    return Err(unkept(place.as_str(), &e));
-                }
-            },
-            Err(e) if e.kind() == ErrorKind::AlreadyExists => {}
-            Err(e) => return Err(unkept(place.as_str(), &e)),
+    let free = free_name(rt, folder, name)?;
+    let place = format!(in rt.alloc(); "{folder}/{free}")?;
+    let part = format!(in rt.alloc(); "{place}.part")?;
+    match fill(rt, part.as_str(), place.as_str(), bytes) {
+        Ok(()) => Ok(free),
+        Err(e) => {
+            let _ = fs::remove_file(rt, part.as_str());
+            Err(unkept(place.as_str(), &e))
         }
     }
-    Err(anyhow!("what is cut off cannot be kept: {folder}/{name}: no name is free"))
 }
 
 fn unkept(place: &str, error: &io::Error) -> anyhow::Error {
@@ -53,10 +47,12 @@ fn turned(rt: &HostRuntime, name: &str, turn: u64) -> Result<String> {
     Ok(format!(in rt.alloc(); "{name}.{turn}")?)
 }
 
-// The name stays through a crash too.
-fn fill(rt: &HostRuntime, mut file: File, place: &str, bytes: &[u8]) -> io::Result<()> {
+// What a crash left of the part is overwritten. The name survives a crash too.
+fn fill(rt: &HostRuntime, part: &str, place: &str, bytes: &[u8]) -> io::Result<()> {
+    let mut file = File::create(rt, part)?;
     file.write_all(bytes)?;
     file.sync_all()?;
+    fs::rename(rt, part, place)?;
     match place.rsplit_once('/') {
         Some((folder, _)) => File::open(rt, folder)?.sync_all(),
         None => Ok(()),

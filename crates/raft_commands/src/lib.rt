@@ -26,4 +26,4 @@ mod writing;
 pub use guard::note_left_out;
 pub use looks::look;
 pub use opening::config;
-pub use writing::change;
+pub use writing::{change, change_by};

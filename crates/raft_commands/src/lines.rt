@@ -3,8 +3,8 @@
 use anyhow::{Result, anyhow};
 use raft_command_line::Request;
 use raft_console::{
-    Pair, Progress, Spelling, failure, file_or_input, or_failure, read_entry_lines, read_lines,
-    read_values,
+    LineForm, Pair, Progress, Spelling, failure, file_or_input, or_failure, read_entry_lines,
+    read_lines, read_values,
 };
 use raft_env::FileSystem;
 use raft_log_engine::{Engine, LogBatch};
@@ -14,17 +14,25 @@ use std::alloc::Global;
 /// A batch takes so many bytes of keys and values, or one pair that has more.
 const BATCH_BYTES: usize = 1024 * 1024;
 
-/// Puts all keys and values of the lines, or none where one of them may not be put.
+/// Values of entries of one group that follow one another, from an index on or behind the group's last entry.
+#[derive(Drop)]
+pub(crate) struct Run {
+    pub group: u64,
+    pub first: Option<u64>,
+    pub values: Vec<Vec<u8>>,
+}
+
+/// Puts all keys and values of the lines, or none if one of them may not be put.
 pub(crate) fn put_lines<F: FileSystem>(
     rt: &HostRuntime,
     engine: &mut Engine<F>,
-    group: u64,
+    group: Option<u64>,
     path: &str,
     request: &Request<'_>,
 ) -> Result<()> {
     let text = file_or_input(rt, path)?;
-    let pairs = read_lines(rt.alloc(), &text, Spelling::of(&request.options))?;
-    let batches = match batches_of(rt.alloc(), group, pairs) {
+    let pairs = read_lines(rt.alloc(), &text, form_of(group, request))?;
+    let batches = match batches_of(rt.alloc(), pairs) {
         Ok(batches) => batches,
         Err(fault) => return Err(failure("the lines cannot be put", &fault)),
     };
@@ -36,50 +44,81 @@ pub(crate) fn put_lines<F: FileSystem>(
     Ok(())
 }
 
-/// The values of a file of lines.
+fn form_of(group: Option<u64>, request: &Request<'_>) -> LineForm {
+    LineForm {
+        spelling: Spelling::of(&request.options),
+        group,
+    }
+}
+
+/// Adds the values of a file of lines behind each group's last one.
 pub(crate) fn read_value_file(
     rt: &HostRuntime,
     path: &str,
+    group: Option<u64>,
     request: &Request<'_>,
-) -> Result<Vec<Vec<u8>>> {
+    runs: &mut Vec<Run>,
+) -> Result<()> {
     let text = file_or_input(rt, path)?;
-    match read_values(rt.alloc(), &text, Spelling::of(&request.options)) {
-        Ok(values) => Ok(values),
+    match read_values(rt.alloc(), &text, form_of(group, request)) {
+        Ok(values) => {
+            for (group, value) in values {
+                let run = run_of(rt.alloc(), runs, group, None)?;
+                run.values.push(value)?;
+            }
+            Ok(())
+        }
         Err(error) => Err(error.context(path)),
     }
 }
 
-/// The first index and the values of a file of lines of entries, whose indexes rise by one.
+/// The entries of a file of lines, whose indexes rise by one in each group.
 pub(crate) fn read_entry_file(
     rt: &HostRuntime,
     path: &str,
+    group: Option<u64>,
     request: &Request<'_>,
-) -> Result<(Option<u64>, Vec<Vec<u8>>)> {
+) -> Result<Vec<Run>> {
     let text = file_or_input(rt, path)?;
-    match entries_in(rt.alloc(), &text, Spelling::of(&request.options)) {
-        Ok(entries) => Ok(entries),
+    match entries_in(rt.alloc(), &text, form_of(group, request)) {
+        Ok(runs) => Ok(runs),
         Err(error) => Err(error.context(path)),
     }
 }
 
-fn entries_in(
-    alloc: Global,
-    text: &[u8],
-    spelling: Spelling,
-) -> Result<(Option<u64>, Vec<Vec<u8>>)> {
-    let mut values = Vec::new(alloc);
-    let mut first = None;
-    let mut next: Option<u64> = None;
-    for (index, value) in read_entry_lines(alloc, text, spelling)? {
-        match next {
-            None => first = Some(index),
-            Some(next) if next == index => {}
-            Some(_) => return Err(anyhow!("index {index} doesn't follow the one before it")),
+fn entries_in(alloc: Global, text: &[u8], form: LineForm) -> Result<Vec<Run>> {
+    let mut runs = Vec::new(alloc);
+    for (group, index, value) in read_entry_lines(alloc, text, form)? {
+        let run = run_of(alloc, &mut runs, group, Some(index))?;
+        let next = run
+            .first
+            .unwrap_or(index)
+            .saturating_add(run.values.len() as u64);
+        if next != index {
+            return Err(anyhow!("index {index} doesn't follow the one before it"));
         }
-        next = Some(index.saturating_add(1));
-        values.push(value)?;
+        run.values.push(value)?;
     }
-    Ok((first, values))
+    Ok(runs)
+}
+
+// The run of a group, which is made if there is none. The last one is looked at first.
+fn run_of(alloc: Global, runs: &mut Vec<Run>, group: u64, first: Option<u64>) -> Result<&mut Run> {
+    let place = match runs.iter().rposition(|run| run.group == group) {
+        Some(place) => place,
+        None => {
+            runs.push(Run {
+                group,
+                first,
+                values: Vec::new(alloc),
+            })?;
+            runs.len().saturating_sub(1)
+        }
+    };
+    match runs.get_mut(place) {
+        Some(run) => Ok(run),
+        None => Err(anyhow!("no run")),
+    }
 }
 
 fn write_all<F: FileSystem>(
@@ -99,11 +138,11 @@ fn write_all<F: FileSystem>(
     Ok(())
 }
 
-fn batches_of(alloc: Global, group: u64, pairs: Vec<Pair>) -> Result<Vec<LogBatch>, Fault> {
+fn batches_of(alloc: Global, pairs: Vec<Pair>) -> Result<Vec<LogBatch>, Fault> {
     let mut batches = Vec::new(alloc);
     let mut batch = LogBatch::new(alloc);
     let mut room = BATCH_BYTES;
-    for (key, value) in pairs {
+    for (group, key, value) in pairs {
         let len = key.len().saturating_add(value.len());
         if len > room && !batch.is_empty() {
             batches.push(batch)?;

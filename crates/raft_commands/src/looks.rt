@@ -12,6 +12,7 @@ use crate::{entries, keys, numbered};
 use anyhow::{Result, anyhow};
 use raft_command_line::{Look, Request};
 use raft_console::{Output, Progress, Status, bytes_of, note_made};
+use raft_contents::sum;
 use raft_env::FileSystem;
 use raft_inspect::{Cut, Passed};
 use raft_log_engine::Engine;
@@ -216,6 +217,10 @@ fn find<F: FileSystem>(
         Look::Entries(group, range) => entries::list(rt.alloc(), engine, group, range, out),
         Look::Groups => entries::groups(engine, out),
         Look::Verify(load) => numbered::verify(rt, engine, load, options.quiet, out),
+        Look::Sum(group, indexes) => {
+            sum(rt.alloc(), engine, group, indexes, out)?;
+            Ok(true)
+        }
         // Done before.
         Look::Stat | Look::Dump(_) | Look::Check | Look::Consistency | Look::Picture => Ok(true),
     }

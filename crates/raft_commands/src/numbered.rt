@@ -2,7 +2,7 @@
 
 use crate::changes::{Change, write};
 use anyhow::Result;
-use raft_command_line::Load;
+use raft_command_line::{Load, Options};
 use raft_console::{Output, Progress, failure, print_bytes};
 use raft_env::FileSystem;
 use raft_inspect::Word;
@@ -19,15 +19,15 @@ pub(crate) fn load<F: FileSystem>(
     rt: &HostRuntime,
     engine: &mut Engine<F>,
     load: Load,
-    quiet: bool,
+    options: &Options<'_>,
 ) -> Result<()> {
     let start = Instant::now(rt)?;
-    let mut progress = Progress::new(*rt, quiet)?;
+    let mut progress = Progress::new(*rt, options.quiet)?;
     for number in 0..load.count {
         progress.at("keys", number, load.count)?;
-        put_next(rt, engine, number, load)?;
+        put_next(rt, engine, number, load, options.json)?;
     }
-    if quiet {
+    if options.quiet {
         return Ok(());
     }
     report(rt, start, load)
@@ -38,6 +38,7 @@ fn put_next<F: FileSystem>(
     engine: &mut Engine<F>,
     number: u64,
     load: Load,
+    json: bool,
 ) -> Result<()> {
     let nth = number.saturating_add(1);
     let sync = load.sync_each > 0 && (nth % load.sync_each == 0 || nth == load.count);
@@ -45,7 +46,12 @@ fn put_next<F: FileSystem>(
         return Err(failure("the keys cannot be loaded", &fault));
     }
     if sync {
-        print_bytes(rt, format!(in rt.alloc(); "synced {number}\n")?.as_bytes())?;
+        let line = if json {
+            format!(in rt.alloc(); "{{\"synced\":{number}}}\n")?
+        } else {
+            format!(in rt.alloc(); "synced {number}\n")?
+        };
+        print_bytes(rt, line.as_bytes())?;
     }
     if load.purge_each > 0 && nth % load.purge_each == 0 {
         if let Err(fault) = engine.purge_expired_files(FileSeq::MAX) {

@@ -25,7 +25,6 @@ pub(crate) fn open<R: Threads + Sync, F: FileSystem + ChangedFiles + Drop>(
     if options.changing.dry_run {
         return open_image(threads, alloc, files, options);
     }
-    files.delete_unread(rt)?;
     match Engine::open_with_file_system(threads, alloc, config(alloc, options)?, files) {
         Ok(engine) => Ok(engine),
         Err(refused) => open_without_empty(rt, threads, refused, options),

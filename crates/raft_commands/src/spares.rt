@@ -10,7 +10,7 @@ use raft_console::{Progress, failure, note_made};
 use raft_env::FileSystem;
 use raft_opening::SpareLimits;
 use raft_opening::prefill::prefill;
-use raft_pipes::LogFolders;
+use raft_pipes::{LogFolders, make_folder};
 use raft_records::Fault;
 use std::alloc::Global;
 
@@ -53,6 +53,7 @@ fn make_all<F: FileSystem + ChangedFiles>(
     );
     note_made(rt, options, text)?;
     let mut progress = Progress::new(*rt, options.quiet)?;
+    make_spill(rt, files, &wanted.config)?;
     for place in wanted.found..wanted.count {
         let done = place.saturating_sub(wanted.found) as u64;
         progress.at("reserved files written ahead", done, count)?;
@@ -66,6 +67,29 @@ fn make_all<F: FileSystem + ChangedFiles>(
         }
     }
     Ok(())
+}
+
+// Makes the second folder if it is missing, as an opening does.
+fn make_spill<F: FileSystem + ChangedFiles>(
+    rt: &HostRuntime,
+    files: &mut F,
+    config: &Config,
+) -> Result<()> {
+    let Some(spill) = &config.spill_dir else {
+        return Ok(());
+    };
+    match make_folder(
+        rt.alloc(),
+        spill.as_str(),
+        "the second folder is a file",
+        files,
+    ) {
+        Ok(()) => Ok(()),
+        Err(fault) => {
+            files.tell_refusal(rt)?;
+            Err(failure("the second folder cannot be made", &fault))
+        }
+    }
 }
 
 // Makes one more where there are so many, and tells whether there was space for it.

@@ -4,7 +4,7 @@ use crate::changed::ChangedFiles;
 use crate::changes::{Change, write};
 use crate::entries::{append, compact};
 use crate::guard::{give_back, guard, note_taken};
-use crate::lines::{put_lines, read_entry_file, read_value_file};
+use crate::lines::{Run, put_lines, read_entry_file, read_value_file};
 use crate::numbered::load;
 use crate::opening::{close, open};
 use crate::purging::purge;
@@ -14,6 +14,7 @@ use crate::waiting::open_folder;
 use anyhow::{Result, anyhow};
 use raft_command_line::{Request, Verb};
 use raft_console::{Output, Progress, Status, bytes_of, or_failure};
+use raft_contents::{Material, truncate};
 use raft_env::FileSystem;
 use raft_log_engine::Engine;
 use raft_looks::Folder;
@@ -28,11 +29,21 @@ pub fn change<R: Threads + Sync>(
     threads: &R,
     request: &Request<'_>,
 ) -> Result<Status> {
+    change_by(rt, threads, request, &mut Material::Request)
+}
+
+/// The same, of a command that writes what it has read elsewhere.
+pub fn change_by<R: Threads + Sync>(
+    rt: HostRuntime,
+    threads: &R,
+    request: &Request<'_>,
+    material: &mut Material<'_>,
+) -> Result<Status> {
     if request.options.changing.dry_run {
-        return change_image(rt, threads, request);
+        return change_image(rt, threads, request, material);
     }
     let files = open_folder(rt, request)?;
-    let changed = change_files(&rt, threads, files, request);
+    let changed = change_files(&rt, threads, files, request, material);
     if changed.is_err() {
         // What can't be told hides no error.
         let _ = tell_hindrances(rt, request);
@@ -53,11 +64,12 @@ fn change_image<R: Threads + Sync>(
     rt: HostRuntime,
     threads: &R,
     request: &Request<'_>,
+    material: &mut Material<'_>,
 ) -> Result<Status> {
     let folder = Folder::open(rt, request.folder, &request.options)?;
     let mut progress = Progress::new(rt, request.options.quiet)?;
     match folder.image(&mut progress)? {
-        Some(image) => change_files(&rt, threads, image, request),
+        Some(image) => change_files(&rt, threads, image, request, material),
         None => Err(anyhow!(
             "{}: files were dropped while they were read",
             request.folder
@@ -70,6 +82,7 @@ fn change_files<R: Threads + Sync, F: FileSystem + ChangedFiles + Drop>(
     threads: &R,
     mut files: F,
     request: &Request<'_>,
+    material: &mut Material<'_>,
 ) -> Result<Status> {
     let mut out = Output::new(*rt, &request.options);
     if let Verb::Repair = &request.verb {
@@ -84,7 +97,7 @@ fn change_files<R: Threads + Sync, F: FileSystem + ChangedFiles + Drop>(
     }
     let changed = match &request.verb {
         Verb::Purge(which) => purge(rt, threads, files, *which, &request.options, &mut out),
-        _ => change_log(rt, threads, files, request, &mut out),
+        _ => change_log(rt, threads, files, request, material, &mut out),
     };
     match changed {
         Ok(status) => {
@@ -104,19 +117,42 @@ fn change_log<R: Threads + Sync, F: FileSystem + ChangedFiles + Drop>(
     threads: &R,
     files: F,
     request: &Request<'_>,
+    material: &mut Material<'_>,
     out: &mut Output,
 ) -> Result<Status> {
     let mut engine = open(rt, threads, files, &request.options)?;
-    if let Err(error) = carry_out(rt, &mut engine, request, out) {
-        engine.give_up().tell_refusal(rt)?;
-        return Err(error);
+    match work_on(rt, &mut engine, request, material, out) {
+        Ok(status) => {
+            if request.sync {
+                close(rt, engine)?;
+            } else {
+                engine.give_up();
+            }
+            Ok(status)
+        }
+        Err(error) => {
+            engine.give_up().tell_refusal(rt)?;
+            Err(error)
+        }
     }
-    if request.sync {
-        close(rt, engine)?;
-    } else {
-        engine.give_up();
+}
+
+// Writes the material, or does what the request says.
+fn work_on<F: FileSystem>(
+    rt: &HostRuntime,
+    engine: &mut Engine<F>,
+    request: &Request<'_>,
+    material: &mut Material<'_>,
+    out: &mut Output,
+) -> Result<Status> {
+    match material {
+        Material::Lines(lines) => lines.write(rt, engine, request, out),
+        Material::Tables(tables) => tables.write(rt, engine, request),
+        Material::Request => {
+            carry_out(rt, engine, request, out)?;
+            Ok(Status::Done)
+        }
     }
-    Ok(Status::Done)
 }
 
 fn carry_out<F: FileSystem>(
@@ -129,27 +165,45 @@ fn carry_out<F: FileSystem>(
         Verb::Put(group, key, value) => put(rt, engine, *group, (*key, *value), request),
         Verb::Lines(group, path) => put_lines(rt, engine, *group, path, request),
         Verb::EntryLines(group, path) => {
-            let (first, values) = read_entry_file(rt, path, request)?;
+            let runs = read_entry_file(rt, path, *group, request)?;
             append(
                 rt.alloc(),
                 engine,
-                *group,
-                &values,
-                first,
+                &runs,
+                group.is_none(),
                 request.sync,
                 out,
             )
         }
         Verb::Delete(group, key) => delete(rt, engine, *group, key, request),
         Verb::Append(group, words, lines, at) => {
-            let values = values_of(rt, words, *lines, request)?;
-            append(rt.alloc(), engine, *group, &values, *at, request.sync, out)
+            let mut runs = runs_of(rt, *group, words, *at, request)?;
+            if let Some(path) = *lines {
+                read_value_file(rt, path, *group, request, &mut runs)?;
+            }
+            append(
+                rt.alloc(),
+                engine,
+                &runs,
+                group.is_none(),
+                request.sync,
+                out,
+            )
         }
         Verb::Compact(group, index) => compact(engine, *group, *index, request.sync, out),
+        Verb::Truncate(group, index) => {
+            truncate(rt.alloc(), engine, *group, *index, request.sync, out)
+        }
         Verb::Clean(group) => clean(rt, engine, *group, request.sync),
-        Verb::Load(numbers) => load(rt, engine, *numbers, request.options.quiet),
+        Verb::Load(numbers) => load(rt, engine, *numbers, &request.options),
         // Done elsewhere.
-        Verb::Repair | Verb::Purge(_) | Verb::Settings | Verb::Fork(_) | Verb::Look(_) => Ok(()),
+        Verb::Repair
+        | Verb::Purge(_)
+        | Verb::Settings
+        | Verb::Fork(_)
+        | Verb::Look(_)
+        | Verb::Import(_)
+        | Verb::Salvage(_) => Ok(()),
     }
 }
 
@@ -180,23 +234,30 @@ fn delete<F: FileSystem>(
     or_failure(written, "the key cannot be deleted")
 }
 
-// The values of the words, and behind them those of the lines of a file.
-fn values_of(
+// The values of the words, which are of a group that is named.
+fn runs_of(
     rt: &HostRuntime,
+    group: Option<u64>,
     words: &[&str],
-    lines: Option<&str>,
+    first: Option<u64>,
     request: &Request<'_>,
-) -> Result<Vec<Vec<u8>>> {
+) -> Result<Vec<Run>> {
+    let mut runs = Vec::new(rt.alloc());
+    let Some(group) = group else {
+        return Ok(runs);
+    };
     let mut values = Vec::new(rt.alloc());
     for word in words {
         values.push(bytes_of(rt, word, request.options.hex)?)?;
     }
-    if let Some(path) = lines {
-        for value in read_value_file(rt, path, request)? {
-            values.push(value)?;
-        }
+    if !values.is_empty() || first.is_some() {
+        runs.push(Run {
+            group,
+            first,
+            values,
+        })?;
     }
-    Ok(values)
+    Ok(runs)
 }
 
 fn clean<F: FileSystem>(

@@ -7,18 +7,22 @@ mod output;
 mod progress;
 mod status;
 mod streams;
+mod telling;
 
 use anyhow::anyhow;
 pub use input::{bytes_of, file_or_input};
-pub use line_input::{EntryLine, Pair, Spelling, read_entry_lines, read_lines, read_values};
+pub use line_input::{
+    EntryLine, GroupValue, LineForm, Pair, Spelling, member, read_entry_lines, read_lines,
+    read_object, read_values,
+};
 pub use output::{Output, print_bytes};
 pub use progress::Progress;
 use raft_base::{Fault, IoKind};
 use raft_command_line::Options;
 pub use status::Status;
 use std::alloc::AllocError;
-use std::io;
 pub use streams::take_closed_streams;
+pub use telling::tell;
 
 /// What couldn't be done, why, and what helps. What couldn't be done and why have room for 120 bytes each.
 pub fn failure(what: &str, fault: &Fault) -> anyhow::Error {
@@ -49,11 +53,11 @@ fn cause_of(fault: &Fault) -> anyhow::Error {
 }
 
 /// Tells something on standard error, where not all is quiet.
-pub fn note(rt: &HostRuntime, options: &Options<'_>, text: &str) -> io::Result<()> {
+pub fn note(rt: &HostRuntime, options: &Options<'_>, text: &str) -> anyhow::Result<()> {
     if options.quiet {
         return Ok(());
     }
-    eprintln!(rt; "raftctl: {text}")
+    tell(rt, options.json, "note", text)
 }
 
 /// Tells a text that was made for it, as `note`.
@@ -62,6 +66,5 @@ pub fn note_made(
     options: &Options<'_>,
     text: Result<String, AllocError>,
 ) -> anyhow::Result<()> {
-    note(rt, options, text?.as_str())?;
-    Ok(())
+    note(rt, options, text?.as_str())
 }

@@ -26,7 +26,7 @@ static COMMANDS: [Command; 15] = [
     Command(&["dump"], Some(0), Some(4)),
     Command(&["check"], Some(0), Some(5)),
     Command(&["check", "--mode", "any"], Some(0), Some(4)),
-    Command(&["consistency"], Some(0), Some(0)),
+    Command(&["consistency"], Some(0), Some(5)),
     Command(&["picture"], Some(0), None),
 ];
 

@@ -29,22 +29,44 @@ pub fn check(
     progress: &mut Progress,
     out: &mut Output,
 ) -> Result<Option<Status>> {
+    let Some(found) = find(folder, progress)? else {
+        return Ok(None);
+    };
+    match add_check(alloc, folder, &found, options.mode, out) {
+        Ok(status) => Ok(Some(status)),
+        Err(fault) => Err(failure("the files cannot be checked", &fault)),
+    }
+}
+
+/// The status that `check` of the folder ends with; none if a file is gone.
+pub fn status_of_check(
+    alloc: Global,
+    folder: &Folder,
+    options: &Options<'_>,
+    progress: &mut Progress,
+) -> Result<Option<Status>> {
+    let Some(found) = find(folder, progress)? else {
+        return Ok(None);
+    };
+    match outlook_of(alloc, &found, options.mode) {
+        Ok(outlook) => Ok(Some(status_of(outlook, !found.left_out.is_empty()))),
+        Err(fault) => Err(failure("the files cannot be checked", &fault)),
+    }
+}
+
+fn find(folder: &Folder, progress: &mut Progress) -> Result<Option<Found>> {
     let Some(append) = folder.inspect(LogQueue::Append, progress)? else {
         return Ok(None);
     };
     let Some(rewrite) = folder.inspect(LogQueue::Rewrite, progress)? else {
         return Ok(None);
     };
-    let found = Found {
+    Ok(Some(Found {
         append,
         rewrite,
         hindrances: folder.hindrances()?,
         left_out: folder.left_out()?,
-    };
-    match add_check(alloc, folder, &found, options.mode, out) {
-        Ok(status) => Ok(Some(status)),
-        Err(fault) => Err(failure("the files cannot be checked", &fault)),
-    }
+    }))
 }
 
 fn add_check(

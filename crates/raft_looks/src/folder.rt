@@ -1,7 +1,7 @@
 //! A folder that is looked at: its log files, one by one or all in memory.
 
 use crate::faults::told;
-use crate::hindrances::{Hindrance, add_hindrances};
+use crate::hindrances::{Hindrance, add_hindrances, is_link};
 use crate::left_out::{LeftOut, ReadFiles};
 use crate::reserved::is_reserved;
 use crate::source::{FileSource, is_missing};
@@ -121,6 +121,11 @@ impl Folder {
         add_hindrances(&self.rt, self.path.as_str(), &mut found)?;
         if let Some(spill) = &self.spill {
             let place = format!(in self.alloc; "{}/{spill}", self.path)?;
+            if is_link(&self.rt, place.as_str()) {
+                let cause = String::from_str(self.alloc, "a second folder may not be a link")?;
+                found.push(Hindrance { path: place, cause })?;
+                return Ok(found);
+            }
             add_hindrances(&self.rt, place.as_str(), &mut found)?;
         }
         Ok(found)

@@ -76,6 +76,10 @@ fn cause_of(
     is_lock: bool,
 ) -> Result<Option<String>, AllocError> {
     let alloc = rt.alloc();
+    // An opening passes over a folder with a log file's name.
+    if !is_lock && metadata.is_dir() {
+        return Ok(None);
+    }
     if is_lock && !metadata.is_file() {
         return Ok(Some(String::from_str(alloc, "the lock is no file")?));
     }
@@ -96,4 +100,12 @@ fn opened(rt: &HostRuntime, place: &str) -> io::Result<()> {
     options.read(true).write(true);
     options.open(rt, place)?;
     Ok(())
+}
+
+/// Whether a path is a link.
+pub(crate) fn is_link(rt: &HostRuntime, path: &str) -> bool {
+    match fs::symlink_metadata(rt, path) {
+        Ok(metadata) => metadata.is_symlink(),
+        Err(_) => false,
+    }
 }

@@ -22,6 +22,9 @@ pub enum LeftOut {
     /// The Rewrite queue: each opening makes a first file of it, and it has none. The number of the
     /// Append queue's first file, before which files were dropped.
     Rewrite(u64),
+    /// The Append queue: each opening makes a file of it, and it has none. How many files the Rewrite
+    /// queue has.
+    Append(u64),
 }
 
 impl LeftOut {
@@ -37,6 +40,11 @@ impl LeftOut {
                 ("queue", Word::Text("rewrite")),
                 ("files", Word::Number(0)),
                 ("append-first", Word::Number(*first)),
+            ]),
+            LeftOut::Append(files) => lines.named(&[
+                ("queue", Word::Text("append")),
+                ("files", Word::Number(0)),
+                ("rewrite-files", Word::Number(*files)),
             ]),
         }
     }
@@ -55,7 +63,7 @@ pub(crate) struct ReadFiles<'a> {
 impl ReadFiles<'_> {
     /// The folders directly inside that are left out: their files continue the numbers of those
     /// that are read, and no number is in both. A folder with its own lock is another log. Without
-    /// such folders, the Rewrite queue, if it is gone.
+    /// such folders, a queue that is gone.
     pub fn left_out(&self) -> Result<Vec<LeftOut>> {
         let mut found = Vec::new(self.rt.alloc());
         let entries = match fs::read_dir(&self.rt, self.path) {
@@ -73,6 +81,9 @@ impl ReadFiles<'_> {
         if let (true, Some(first)) = (found.is_empty(), self.first_without_rewrite()) {
             found.push(LeftOut::Rewrite(first))?;
         }
+        if let (true, Some(files)) = (found.is_empty(), self.files_without_append()) {
+            found.push(LeftOut::Append(files))?;
+        }
         Ok(found)
     }
 
@@ -89,6 +100,19 @@ impl ReadFiles<'_> {
             return None;
         }
         Some(first)
+    }
+
+    // How many files the Rewrite queue has, if the Append queue has none.
+    fn files_without_append(&self) -> Option<u64> {
+        for file in self.files {
+            if let LogQueue::Append = file.id.queue {
+                return None;
+            }
+        }
+        if self.files.is_empty() {
+            return None;
+        }
+        Some(self.files.len() as u64)
     }
 
     fn add_entry(&self, entry: &DirEntry, found: &mut Vec<LeftOut>) -> Result<()> {

@@ -11,7 +11,7 @@ mod left_out;
 mod reserved;
 mod source;
 
-pub use checking::check;
+pub use checking::{check, status_of_check};
 pub use dumping::dump;
 pub use faults::{tell_refusal, told};
 pub use folder::{Folder, ReservedFile};

@@ -11,7 +11,7 @@ use raft_disk::{DiskFileSystem, FolderView, OpenFault, image_of};
 use raft_env::{FileSystem, FsFault};
 use raft_fork::FORK_MARK;
 use raft_inspect::Word;
-use raft_looks::{Folder, tell_refusal, told};
+use raft_looks::{Folder, status_of_check, tell_refusal, told};
 use std::alloc::Global;
 use std::io::ErrorKind;
 
@@ -47,11 +47,24 @@ fn fork_source(
     let settings = config(rt.alloc(), &request.options)?;
     let copies = plan(rt, source, target, &settings)?;
     tell_passed(&rt, source, &settings, &copies)?;
-    let left_out = Folder::open(rt, request.folder, &request.options)?.left_out()?;
-    note_left_out(&rt, &left_out, request)?;
+    let status = status_of_source(rt, request)?;
     match DiskFileSystem::open_with(rt, target, None) {
-        Ok(mut files) => copy_or_tell(rt, source, &copies, &mut files, request),
+        Ok(mut files) => {
+            copy_or_tell(rt, source, &copies, &mut files, request)?;
+            Ok(status)
+        }
         Err(fault) => Err(told(&rt, &fault)),
+    }
+}
+
+// Tells what isn't read of the source, and returns what `check` of it ends with.
+fn status_of_source(rt: HostRuntime, request: &Request<'_>) -> Result<Status> {
+    let folder = Folder::open(rt, request.folder, &request.options)?;
+    note_left_out(&rt, &folder.left_out()?, request)?;
+    let mut progress = Progress::new(rt, request.options.quiet)?;
+    match status_of_check(rt.alloc(), &folder, &request.options, &mut progress)? {
+        Some(status) => Ok(status),
+        None => Err(anyhow!("a file of it was deleted meanwhile").context(request.folder)),
     }
 }
 
@@ -62,7 +75,7 @@ fn copy_or_tell(
     copies: &[Copy],
     files: &mut DiskFileSystem,
     request: &Request<'_>,
-) -> Result<Status> {
+) -> Result<()> {
     let copied = copy_all(rt, source, copies, files, request);
     if copied.is_err() {
         tell_refusal(&rt, files)?;
@@ -134,7 +147,7 @@ fn copy_all<F: FileSystem>(
     copies: &[Copy],
     files: &mut F,
     request: &Request<'_>,
-) -> Result<Status> {
+) -> Result<()> {
     let mut progress = Progress::new(rt, request.options.quiet)?;
     let mut out = Output::new(rt, &request.options);
     done(rt.alloc(), FORK_MARK, put_file(files, FORK_MARK, &[]))?;
@@ -145,8 +158,7 @@ fn copy_all<F: FileSystem>(
     }
     let removed = files.delete(FORK_MARK);
     done(rt.alloc(), FORK_MARK, removed)?;
-    out.print()?;
-    Ok(Status::Done)
+    out.print()
 }
 
 fn copy_file<F: FileSystem>(

@@ -39,7 +39,10 @@ const KEYS: [(&str, &str); 15] = [
     ("target-file-size", SIZE),
     ("purge-threshold", SIZE),
     ("purge-rewrite-threshold", SIZE),
-    ("purge-rewrite-garbage-ratio", "a number from 0 to 1"),
+    (
+        "purge-rewrite-garbage-ratio",
+        "a whole number of thousandths from 0 to 1000, as 600 for 0.6",
+    ),
     ("memory-limit", SIZE),
     ("enable-log-recycle", SWITCH),
     ("prefill-for-recycle", SWITCH),

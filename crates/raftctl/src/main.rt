@@ -5,20 +5,22 @@ use anyhow::{Result, bail};
 use clap::Error;
 use raft_command_line::{Request, Verb, completion_script, parse};
 use raft_commands::{change, look};
-use raft_console::{Status, print_bytes, take_closed_streams};
+use raft_console::{Status, print_bytes, take_closed_streams, tell};
 use raft_offline::{fork_folder, print_settings, settings_of};
+use raft_salvage::{import_folder, import_lines, salvage};
 use std::env;
 use std::process::ExitCode;
 use std::thread::Threads;
 
 fn main(rt: HostRuntime) -> ExitCode {
     if let Err(error) = take_closed_streams(&rt) {
-        return failed(&rt, &error);
+        return failed(&rt, false, &error);
     }
     let words = match words(&rt) {
         Ok(words) => words,
-        Err(error) => return failed(&rt, &error),
+        Err(error) => return failed(&rt, false, &error),
     };
+    let json = words.iter().any(|word| word.as_str() == "--json");
     if let [_, option] = words.as_slice() {
         if option.as_str() == "--completion" {
             return completed(&rt);
@@ -27,7 +29,7 @@ fn main(rt: HostRuntime) -> ExitCode {
     match parse(rt.alloc(), words.as_slice()) {
         Ok(request) => match run(rt, &rt, request) {
             Ok(status) => ExitCode::from(status.code()),
-            Err(error) => failed(&rt, &error),
+            Err(error) => failed(&rt, json, &error),
         },
         Err(error) => misused(&rt, &error),
     }
@@ -48,7 +50,7 @@ fn words(rt: &HostRuntime) -> Result<Vec<String>> {
 fn completed(rt: &HostRuntime) -> ExitCode {
     match print_completion(rt) {
         Ok(()) => ExitCode::SUCCESS,
-        Err(error) => failed(rt, &error),
+        Err(error) => failed(rt, false, &error),
     }
 }
 
@@ -57,8 +59,11 @@ fn print_completion(rt: &HostRuntime) -> Result<()> {
     print_bytes(rt, script.as_bytes())
 }
 
-fn failed(rt: &HostRuntime, error: &anyhow::Error) -> ExitCode {
-    let _ = eprintln!(rt; "raftctl: {error:#}");
+fn failed(rt: &HostRuntime, json: bool, error: &anyhow::Error) -> ExitCode {
+    let _ = match format!(in rt.alloc(); "{error:#}") {
+        Ok(text) => tell(rt, json, "error", text.as_str()),
+        Err(_) => Err(anyhow::anyhow!("out of memory")),
+    };
     ExitCode::FAILURE
 }
 
@@ -77,6 +82,11 @@ fn run<R: Threads + Sync>(rt: HostRuntime, threads: &R, request: Request<'_>) ->
         Verb::Look(what) => look(rt, threads, &request, *what),
         Verb::Settings => print_settings(&rt, &request.options),
         Verb::Fork(target) => fork_folder(rt, &request, target),
+        Verb::Import(import) => match import.folder {
+            Some(folder) => import_folder(rt, threads, &request, *import, folder),
+            None => import_lines(rt, threads, &request, *import),
+        },
+        Verb::Salvage(asked) => salvage(rt, threads, &request, asked),
         _ => change(rt, threads, &request),
     }
 }

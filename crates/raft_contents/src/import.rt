@@ -1,0 +1,155 @@
+//! Batches of lines that are written to a log.
+
+use crate::filling::Filling;
+use crate::line_items::{Content, LineItem, Place, marks_of, read_items};
+use anyhow::Result;
+use raft_command_line::{Import, Request};
+use raft_console::{Output, Progress, Status, file_or_input, note_made, or_failure};
+use raft_env::FileSystem;
+use raft_inspect::{Filter, ItemKind, Word};
+use raft_log_engine::Engine;
+use raft_records::Fault;
+use raft_whole_records::Marks;
+use std::mem;
+
+/// Items of lines, and which of them are written.
+pub struct LineImport {
+    items: Vec<LineItem>,
+    marks: Marks,
+    filter: Filter,
+}
+
+// One call in a proof that drops it.
+impl Drop for LineImport {
+    fn drop(self) {
+        let LineImport {
+            items: _items,
+            marks: _marks,
+            filter: _,
+        } = self;
+    }
+}
+
+impl LineImport {
+    /// The lines of a file that `dump --json` printed, or of standard input. It fails at the first line that can't be
+    /// read, and says which.
+    pub fn read(rt: &HostRuntime, import: Import<'_>) -> Result<LineImport> {
+        let path = import.file.unwrap_or("-");
+        let text = file_or_input(rt, path)?;
+        match read_items(rt.alloc(), &text) {
+            Ok(items) => {
+                let marks = marks_of(rt.alloc(), &items)?;
+                Ok(LineImport {
+                    items,
+                    marks,
+                    filter: filter_of(import),
+                })
+            }
+            Err(error) => Err(error.context(path)),
+        }
+    }
+
+    /// Writes the batches of the lines, one for each record, in their order, and prints how many items they have. If a
+    /// line says that a file could not be read further, that is told, and the status is 4. The items are gone then.
+    pub fn write<F: FileSystem>(
+        &mut self,
+        rt: &HostRuntime,
+        engine: &mut Engine<F>,
+        request: &Request<'_>,
+        out: &mut Output,
+    ) -> Result<Status> {
+        let mut filling = Filling::new(rt.alloc());
+        let mut progress = Progress::new(*rt, request.options.quiet)?;
+        let items = mem::replace(&mut self.items, Vec::new(rt.alloc()));
+        let whole = items.len() as u64;
+        let mut state = Reading {
+            place: None,
+            is_left_out: false,
+            unread: 0,
+        };
+        for (place, item) in items.into_iter().enumerate() {
+            progress.at("items imported", place as u64, whole)?;
+            self.add(rt, engine, item, request, &mut state, &mut filling)?;
+        }
+        filling.finish(engine, request.sync)?;
+        out.named(&[("imported", Word::Number(filling.items))])?;
+        if state.unread > 0 {
+            return Ok(Status::WouldCut);
+        }
+        Ok(Status::Done)
+    }
+}
+
+/// Which items an import writes.
+pub fn filter_of(import: Import<'_>) -> Filter {
+    Filter {
+        group: import.group,
+        kind: import.kind.and_then(ItemKind::named),
+        from: None,
+        to: None,
+    }
+}
+
+/// Where the lines are read.
+#[derive(Drop)]
+struct Reading {
+    /// The record of the last line.
+    place: Option<Place>,
+    /// Whether the batch of the last line doesn't count.
+    is_left_out: bool,
+    /// How many lines say that a file could not be read on.
+    unread: u64,
+}
+
+impl LineImport {
+    fn add<F: FileSystem>(
+        &self,
+        rt: &HostRuntime,
+        engine: &mut Engine<F>,
+        item: LineItem,
+        request: &Request<'_>,
+        state: &mut Reading,
+        filling: &mut Filling,
+    ) -> Result<()> {
+        if item.place != state.place {
+            filling.write(engine)?;
+            state.place = item.place;
+            state.is_left_out = false;
+        } else if state.place.is_none() {
+            filling.write_if_full(engine)?;
+        }
+        if let Content::Mark(_) = &item.content {
+            let is_rewrite = item.place.is_some_and(|place| place.is_rewrite);
+            state.is_left_out = is_rewrite && !self.marks.counts(item.group);
+            return Ok(());
+        }
+        if let Content::Unread(why) = &item.content {
+            state.unread = state.unread.saturating_add(1);
+            let text = format!(in rt.alloc();
+                "the dump ends before the end of a file: {why}; `salvage` reads on behind it"
+            );
+            return note_made(rt, &request.options, text);
+        }
+        if state.is_left_out || !item.is_taken(self.filter) {
+            return Ok(());
+        }
+        or_failure(fill(engine, item, filling), "an item cannot be imported")
+    }
+}
+
+fn fill<F: FileSystem>(
+    engine: &Engine<F>,
+    item: LineItem,
+    filling: &mut Filling,
+) -> Result<(), Fault> {
+    let LineItem { group, content, .. } = item;
+    match content {
+        Content::Put(key, value) => filling.put(engine, group, key, value),
+        Content::Delete(key) => filling.delete(engine, group, key),
+        Content::Entry(index, bytes) => filling.add_entry(engine, group, index, bytes),
+        Content::Clean => filling.clean(engine, group),
+        Content::Compact(index) => filling.compact(engine, group, index),
+        Content::Mark(_mark) => Ok(()),
+        Content::Unread(_why) => Ok(()),
+    }
+}

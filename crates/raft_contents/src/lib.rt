@@ -1,0 +1,17 @@
+//! What raftctl does with the contents of an open log: sums, entries that are removed from an index on, and items of lines
+//! or of other files that are written.
+#![tactic(auto)]
+
+mod filling;
+mod import;
+mod line_items;
+mod material;
+mod summing;
+mod tables;
+mod truncating;
+
+pub use import::{LineImport, filter_of};
+pub use material::Material;
+pub use summing::sum;
+pub use tables::TableImport;
+pub use truncating::truncate;

@@ -1,0 +1,96 @@
+//! Groups that were read from files are written to a log.
+
+use crate::filling::Filling;
+use anyhow::Result;
+use raft_command_line::Request;
+use raft_console::{Progress, Status, or_failure};
+use raft_env::FileSystem;
+use raft_gathering::{Group, Tables};
+use raft_inspect::{Filter, ItemKind};
+use raft_log_engine::Engine;
+use raft_records::Fault;
+
+/// Groups, which of their items are written, and the status that the program then ends with.
+#[derive(Clone, Copy)]
+pub struct TableImport<'a> {
+    pub tables: &'a Tables,
+    pub filter: Filter,
+    pub status: Status,
+}
+
+impl TableImport<'_> {
+    /// Writes of each group the entries behind its last gap, and its keys.
+    pub fn write<F: FileSystem>(
+        &self,
+        rt: &HostRuntime,
+        engine: &mut Engine<F>,
+        request: &Request<'_>,
+    ) -> Result<Status> {
+        let mut progress = Progress::new(*rt, request.options.quiet)?;
+        let mut filling = Filling::new(rt.alloc());
+        let whole = self.tables.groups.len() as u64;
+        let mut done = 0u64;
+        for (number, group) in self.tables.groups.iter() {
+            progress.at("groups written", done, whole)?;
+            done = done.saturating_add(1);
+            write_group(rt, engine, *number, group, self.filter, &mut filling)?;
+        }
+        filling.finish(engine, request.sync)?;
+        Ok(self.status)
+    }
+}
+
+fn write_group<F: FileSystem>(
+    rt: &HostRuntime,
+    engine: &mut Engine<F>,
+    number: u64,
+    group: &Group,
+    filter: Filter,
+    filling: &mut Filling,
+) -> Result<()> {
+    if let Some(run) = group.runs.last() {
+        for (place, bytes) in run.entries.iter().enumerate() {
+            let index = run.first.saturating_add(place as u64);
+            if filter.takes(number, ItemKind::Entry, Some(index)) {
+                let added = add_entry(rt, engine, number, index, bytes, filling);
+                or_failure(added, "an entry cannot be written")?;
+                filling.write_if_full(engine)?;
+            }
+        }
+    }
+    if filter.takes(number, ItemKind::Put, None) {
+        for (key, kept) in group.keys.iter() {
+            let added = put(rt, engine, number, key, &kept.value, filling);
+            or_failure(added, "a key cannot be written")?;
+            filling.write_if_full(engine)?;
+        }
+    }
+    Ok(())
+}
+
+fn add_entry<F: FileSystem>(
+    rt: &HostRuntime,
+    engine: &Engine<F>,
+    group: u64,
+    index: u64,
+    bytes: &[u8],
+    filling: &mut Filling,
+) -> Result<(), Fault> {
+    filling.add_entry(engine, group, index, bytes.to_vec(rt.alloc())?)
+}
+
+fn put<F: FileSystem>(
+    rt: &HostRuntime,
+    engine: &Engine<F>,
+    group: u64,
+    key: &[u8],
+    value: &[u8],
+    filling: &mut Filling,
+) -> Result<(), Fault> {
+    filling.put(
+        engine,
+        group,
+        key.to_vec(rt.alloc())?,
+        value.to_vec(rt.alloc())?,
+    )
+}

@@ -1,0 +1,14 @@
+//! Reads all whole records of files into tables of their groups, and reports what could not be read.
+#![tactic(auto)]
+
+mod gathering;
+mod report;
+mod sources;
+mod tables;
+mod telling;
+
+pub use gathering::{Gathering, gather};
+pub use report::{FileRead, Missing, Report, UnreadPlace};
+pub use sources::{Part, Source, sources_of};
+pub use tables::{Group, Kept, Run, Tables};
+pub use telling::print_groups;

@@ -1,0 +1,191 @@
+//! The files that are read: log files, what a repair cut off them or moved aside, and files that are named.
+
+use anyhow::{Result, anyhow, bail};
+use raft_disk::{FolderView, OpenFault};
+use raft_dump::log_file;
+use raft_looks::told;
+use raft_records::{FileId, LogQueue};
+use std::alloc::Global;
+use std::fs;
+use std::io::ErrorKind;
+
+/// How many bytes the name of a log file has.
+const NAME_LEN: usize = 24;
+
+/// What a file's name says behind that of a log file.
+#[derive(Clone, Copy, PartialEq, Eq)]
+pub enum Part {
+    /// Nothing: it is the log file.
+    Log,
+    /// It was moved aside whole, or is a copy.
+    Whole,
+    /// It has the bytes that a repair cut off from this place on.
+    Cut(u64),
+}
+
+/// A file that is read.
+#[derive(Drop)]
+pub struct Source {
+    pub id: FileId,
+    pub part: Part,
+    /// Its name, as it is told.
+    pub name: String,
+    /// Its path.
+    pub path: String,
+}
+
+/// The files of a folder and of a second one that are read, or those that are named; by queue, the Rewrite queue's
+/// first, then by number, and what was cut off by its place.
+pub fn sources_of(
+    rt: &HostRuntime,
+    folder: &str,
+    spill: Option<&str>,
+    named: &[&str],
+) -> Result<Vec<Source>> {
+    let alloc = rt.alloc();
+    let mut sources = Vec::new(alloc);
+    if named.is_empty() {
+        add_folder(rt, folder, "", &mut sources)?;
+        if let Some(spill) = spill {
+            add_folder(rt, folder, spill, &mut sources)?;
+        }
+    }
+    for name in named {
+        add_named(alloc, folder, name, &mut sources)?;
+    }
+    sources.sort_by_key(|source| key_of(source))?;
+    Ok(sources)
+}
+
+// The order in which sources are read.
+fn key_of(source: &Source) -> (u64, u64, u64, u64) {
+    let queue = match source.id.queue {
+        LogQueue::Rewrite => 0,
+        LogQueue::Append => 1,
+    };
+    let (part, place) = match source.part {
+        Part::Whole => (0, 0),
+        Part::Log => (1, 0),
+        Part::Cut(place) => (2, place),
+    };
+    (queue, source.id.seq, part, place)
+}
+
+fn add_folder(
+    rt: &HostRuntime,
+    folder: &str,
+    below: &str,
+    sources: &mut Vec<Source>,
+) -> Result<()> {
+    let alloc = rt.alloc();
+    let view = match FolderView::open(*rt, folder) {
+        Ok(view) => view,
+        Err(fault) => return Err(told(rt, &fault)),
+    };
+    if view.is_in_use() {
+        return Err(anyhow!("it is open already").context(format_args!("{folder}")));
+    }
+    let names = match view.names(below) {
+        Ok(names) => names,
+        Err(OpenFault::Io(_, e)) if e.kind() == ErrorKind::NotFound => return Ok(()),
+        Err(fault) => return Err(told(rt, &fault)),
+    };
+    for name in &names {
+        let name = if below.is_empty() {
+            name.clone()?
+        } else {
+            format!(in alloc; "{below}/{name}")?
+        };
+        let path = format!(in alloc; "{folder}/{name}")?;
+        add_source(alloc, name, path, false, sources)?;
+    }
+    Ok(())
+}
+
+// A name with a slash is a path.
+fn add_named(alloc: Global, folder: &str, name: &str, sources: &mut Vec<Source>) -> Result<()> {
+    let path = if name.contains('/') {
+        String::from_str(alloc, name)?
+    } else {
+        format!(in alloc; "{folder}/{name}")?
+    };
+    let before = sources.len();
+    add_source(alloc, String::from_str(alloc, name)?, path, true, sources)?;
+    if sources.len() == before {
+        bail!("{name}: its name doesn't begin with a log file's, as 0000000000000001.raftlog");
+    }
+    Ok(())
+}
+
+// Adds a file whose name begins with a log file's. What else follows that name is a copy, if the file is named.
+fn add_source(
+    alloc: Global,
+    name: String,
+    path: String,
+    is_named: bool,
+    sources: &mut Vec<Source>,
+) -> Result<()> {
+    if let Some((id, part)) = read_name(alloc, name.as_str(), is_named)? {
+        sources.push(Source {
+            id,
+            part,
+            name,
+            path,
+        })?;
+    }
+    Ok(())
+}
+
+// The log file that a name begins with, and what follows that.
+fn read_name(alloc: Global, name: &str, is_named: bool) -> Result<Option<(FileId, Part)>> {
+    let file = match name.rsplit_once('/') {
+        Some((_, file)) => file,
+        None => name,
+    };
+    let Some((own, suffix)) = file.split_at_checked(NAME_LEN) else {
+        return Ok(None);
+    };
+    let Some(part) = part_of(suffix, is_named) else {
+        return Ok(None);
+    };
+    for queue in &[LogQueue::Rewrite, LogQueue::Append] {
+        if let Some(id) = id_of(alloc, own, *queue)? {
+            return Ok(Some((id, part)));
+        }
+    }
+    Ok(None)
+}
+
+// The queue's log file of this name.
+fn id_of(alloc: Global, name: &str, queue: LogQueue) -> Result<Option<FileId>> {
+    match log_file(alloc, "", name, queue) {
+        Ok(Some(found)) => Ok(Some(found.id)),
+        Ok(None) => Ok(None),
+        Err(fault) => bail!("{fault}"),
+    }
+}
+
+fn part_of(suffix: &str, is_named: bool) -> Option<Part> {
+    if suffix.is_empty() {
+        return Some(Part::Log);
+    }
+    if let Some(place) = suffix.strip_prefix(".cut-") {
+        let digits = match place.split_once('.') {
+            Some((digits, _)) => digits,
+            None => place,
+        };
+        return Some(Part::Cut(digits.parse().ok()?));
+    }
+    if is_named || suffix.starts_with(".passed") {
+        return Some(Part::Whole);
+    }
+    None
+}
+
+/// The bytes of a source.
+pub(crate) fn read(rt: &HostRuntime, source: &Source) -> Result<Vec<u8>> {
+    match fs::read(rt, source.path.as_str()) {
+        Ok(bytes) => Ok(bytes),
+        Err(e) => Err(anyhow!("{e}").context(format_args!("{}", source.name))),
+    }
+}

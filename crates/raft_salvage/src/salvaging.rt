@@ -1,0 +1,110 @@
+//! Whole records of damaged files, in a new log.
+
+use anyhow::{Result, anyhow, bail};
+use raft_command_line::{Request, Salvage, Verb};
+use raft_commands::change_by;
+use raft_console::{Output, Status};
+use raft_contents::{Material, TableImport};
+use raft_gathering::{Gathering, gather, print_groups, sources_of};
+use raft_inspect::Filter;
+use std::fs::{self, File};
+use std::io::{self, ErrorKind};
+use std::thread::Threads;
+
+/// Reads every whole record of the request's folder, or of the files that are named, and writes what they stand for
+/// into a new folder. It prints how many records each file has, what could not be read and why, and of each group what
+/// came back. Nothing is changed in the request's folder. The new log is made under the name `TARGET.part`, and gets
+/// its own name once it is whole and synced.
+pub fn salvage<R: Threads + Sync>(
+    rt: HostRuntime,
+    threads: &R,
+    request: &Request<'_>,
+    asked: &Salvage<'_>,
+) -> Result<Status> {
+    let is_dry = request.options.changing.dry_run;
+    let part = format!(in rt.alloc(); "{}.part", asked.target)?;
+    if !is_dry {
+        check_target(&rt, asked.target, part.as_str())?;
+    }
+    let sources = sources_of(&rt, request.folder, request.options.spill, &asked.files)?;
+    if sources.is_empty() {
+        bail!("{}: no log file", request.folder);
+    }
+    let quiet = request.options.quiet;
+    let gathering = gather(&rt, &sources, asked.stale, quiet)?;
+    tell(rt, request, &gathering)?;
+    let status = if gathering.report.is_whole() {
+        Status::Done
+    } else {
+        Status::WouldCut
+    };
+    if is_dry {
+        return Ok(status);
+    }
+    let mut options = request.options;
+    options.spill = None;
+    let target = Request::new(part.as_str(), options, Verb::Settings, false);
+    let mut material = Material::Tables(TableImport {
+        tables: &gathering.tables,
+        filter: Filter::ALL,
+        status,
+    });
+    let status = change_by(rt, threads, &target, &mut material)?;
+    match name_target(&rt, asked.target, part.as_str()) {
+        Ok(()) => Ok(status),
+        Err(e) => Err(anyhow!("{e}").context(format_args!(
+            "{part} is whole, and cannot be renamed to {}",
+            asked.target
+        ))),
+    }
+}
+
+fn tell(rt: HostRuntime, request: &Request<'_>, gathering: &Gathering) -> Result<()> {
+    let mut out = Output::new(rt, &request.options);
+    gathering.report.print(&mut out)?;
+    print_groups(&gathering.tables, &mut out)?;
+    out.print()
+}
+
+// The target is an empty folder, or nothing; and no other salvage into it has begun.
+fn check_target(rt: &HostRuntime, target: &str, part: &str) -> Result<()> {
+    if stands(rt, part)? {
+        bail!("{part}: a salvage that has not ended made it: remove it, and salvage again");
+    }
+    if stands(rt, target)? && !is_empty(rt, target)? {
+        bail!("{target}: it isn't empty, and a salvage writes a new log: name another folder");
+    }
+    Ok(())
+}
+
+fn is_empty(rt: &HostRuntime, folder: &str) -> Result<bool> {
+    let entries = match fs::read_dir(rt, folder) {
+        Ok(entries) => entries,
+        Err(e) => return Err(anyhow!("{e}").context(format_args!("{folder}"))),
+    };
+    let mut count = 0u64;
+    for _entry in entries {
+        count = count.saturating_add(1);
+    }
+    Ok(count == 0)
+}
+
+fn stands(rt: &HostRuntime, path: &str) -> Result<bool> {
+    match fs::symlink_metadata(rt, path) {
+        Ok(_) => Ok(true),
+        Err(e) if e.kind() == ErrorKind::NotFound => Ok(false),
+        Err(e) => Err(anyhow!("{e}").context(format_args!("{path}"))),
+    }
+}
+
+// The name stays through a crash too.
+fn name_target(rt: &HostRuntime, target: &str, part: &str) -> io::Result<()> {
+    File::open(rt, part)?.sync_all()?;
+    fs::rename(rt, part, target)?;
+    let folder = match target.trim_end_matches('/').rsplit_once('/') {
+        Some(("", _)) => "/",
+        Some((folder, _)) => folder,
+        None => ".",
+    };
+    File::open(rt, folder)?.sync_all()
+}
