@@ -4,7 +4,7 @@
  * Results. A function that returns an `int` returns RAFTLOG_OK (0) if it is done, RAFTLOG_ABSENT (20) if the
  * requested value does not exist, and else the code of a failure, whose text `raftlog_message` returns. Each call may fail
  * as RAFTLOG_INVALID for a NULL that must not be one, as RAFTLOG_NO_MEMORY, and as RAFTLOG_FAILED if the log has
- * failed before; the comment on a call names its other failures. A failure loses nothing that was done before. A
+ * failed before. The comment on a call names its other failures. A failure loses nothing that was done before. A
  * change that is refused leaves the log's contents as they are. If the log fails in a change (RAFTLOG_IO,
  * RAFTLOG_FAILED, or RAFTLOG_NO_MEMORY and then RAFTLOG_FAILED), the next opening finds all that was done before, and
  * that change or not.
@@ -26,11 +26,11 @@
  * `raftlog_close` there frees memory alone. The child does not keep the parent's folder locked. Its own logs are as
  * any.
  *
- * Folders. The log holds its folder open until the close, and reaches its files through it: so it continues in its own
+ * Folders. The log holds its folder open until the close, and reaches its files through it. So it continues in its own
  * folder if the folder is moved, if another one gets its name, or if the program changes its working directory. A link
  * that leads to the folder is followed once, at the opening; below the folder no link is followed. The folder is
  * locked by its file LOCK and, if the file system can do that, by itself. Before the log makes, renames or deletes a
- * file it compares LOCK with the file that it locked: if LOCK was removed, the log locks a new one, and fails as
+ * file it compares LOCK with the file that it locked. If LOCK was removed, the log locks a new one, and fails as
  * RAFTLOG_IO if another process has that. If another program deleted the file that is written, the next sync fails as
  * RAFTLOG_IO.
  *
@@ -42,16 +42,16 @@
  * round.
  *   A round has at most RAFTLOG_ROUND_CHANGES changes, and RAFTLOG_ROUND_BYTES bytes of batches or one batch that is
  * longer. A purge has its own round.
- *   A write without a sync that comes while a sync runs waits for the sync, since changes of files are made in turn:
- * after a crash no write is found without those before it.
+ *   A write without a sync that comes while a sync runs waits for the sync, since changes of files are made in turn.
+ * After a crash no write is found without those before it.
  *   If a change of a file or the sync fails, or there is no memory for one, each change of the round fails as
- * RAFTLOG_IO, also one that asked for no sync and one that was refused. The next opening finds all that was done
+ * RAFTLOG_IO. So does one that asked for no sync, and one that was refused. The next opening finds all that was done
  * before, and of this round none, the first ones or all. Later calls fail as RAFTLOG_FAILED.
  *
  * Reads. A read sees each change whose call returned before the read began. It may see a change whose call has not
  * returned, as a whole; then the read returns after that change's round, and fails as RAFTLOG_FAILED if the round
  * failed. So what a read returns of a synced write survives a crash as the write itself does. A read waits for changes
- * of files and a sync of one round at most, and only if the round changes its group, or one of the few groups that
+ * of files and a sync of one round at most. It does so only if the round changes its group, or one of the few groups that
  * share its place in a table of 4096 (`raftlog_groups`: any group).
  *   But calls enter the log itself in turn. There a read of any group waits for a read of entries that are not in
  * memory, and for a purge until it has moved all that it moves. A purge reads cold entries from the disk; its writes,
@@ -59,8 +59,8 @@
  * after each RAFTLOG_MOVED_BYTES, or after a group that has more. `raftlog_must_rewrite_append_groups` and
  * `raftlog_must_rewrite_rewrite_groups` let in writes too.
  *
- * Proved, for the functions below these (crates/raft_c): for each code, what the log has done and its contents then;
- * for a failure, its cause; and that at each moment inside a call a crash leaves everything that was synced before. The
+ * Proved, for the functions below these (crates/raft_c): for each code, what the log has done and its contents then,
+ * and for a failure its cause. Proved too: at each moment inside a call a crash leaves all that was synced before. The
  * files beside this one are trusted. They let in one call of the proved part at a time, with valid pointers and an open
  * log, and their prototypes of the proved functions are right. They carry out each change of a file that a call
  * ordered, in turn, before that call or a read that saw it returns. If they can't, they report the failure to the
@@ -234,7 +234,7 @@ typedef struct {
     uint64_t files;          /* files in the folder now, reserved ones too; 0 in memory */
 } raftlog_counts;
 
-/* Stores the numbers. `size` is sizeof(raftlog_counts) of the header with which the program was built: so an older
+/* Stores the numbers. `size` is sizeof(raftlog_counts) of the header with which the program was built. So an older
  * program gets the numbers that it knows, and a newer one 0 for those that the library does not count. Each number is
  * that of some moment of the call. It fails as RAFTLOG_INVALID if `size` is 0. */
 int raftlog_stats(raftlog *log, raftlog_counts *counts, size_t size);
@@ -250,7 +250,7 @@ const char *raftlog_code_text(int code);
 
 /* By default the program ends by SIGBUS if a part of a file cannot be read again: the disk fails, or another program
  * cut the file. After this call, once for the process, a read that needs this part fails as RAFTLOG_CORRUPTION, and so
- * does each later one; an opening that needs it fails as RAFTLOG_IO and cuts nothing. Other SIGBUS go to the handler
+ * does each later one. An opening that needs it fails as RAFTLOG_IO and cuts nothing. Other SIGBUS go to the handler
  * that was set before. It fails as RAFTLOG_INVALID if no handler can be set. */
 int raftlog_survive_bus_errors(void);
 
@@ -292,7 +292,7 @@ int raftlog_batch_compact(raftlog_batch *batch, uint64_t group, uint64_t index);
  * after these the log is as it was. After RAFTLOG_IO the log has failed, and after RAFTLOG_NO_MEMORY it may have. */
 int raftlog_write(raftlog *log, raftlog_batch *batch, bool sync);
 
-/* Writes a batch that acts once, however often it is written: with it each of the groups gets the number beside it,
+/* Writes a batch that acts once, however often it is written. With it each of the groups gets the number beside it,
  * and keeps the number until the group is cleaned. Each number must be greater than the one that its group keeps; a
  * group that keeps none counts as 0. If none of the numbers is greater, the batch was written before: nothing is
  * written, and the call returns RAFTLOG_OK, after a sync if requested. It fails as `raftlog_write`, as
