@@ -81,7 +81,7 @@ fn add_file(
 ) -> Result<(), Fault> {
     lines.named(&[
         ("file", Word::Bytes(file.path.as_bytes())),
-        ("version", Word::Text(version_name(check))),
+        ("version", Word::Number(version_number(check))),
         ("records", Word::Number(check.records as u64)),
         ("read", Word::Number(check.end as u64)),
         ("size", Word::Number(check.len as u64)),
@@ -93,12 +93,13 @@ fn add_file(
     Ok(())
 }
 
-fn version_name(check: &FileCheck) -> &'static str {
+// The version in a file's header, 0 without a header.
+fn version_number(check: &FileCheck) -> u64 {
     match check.format {
-        None => "none",
+        None => 0,
         Some(format) => match format.version {
-            Version::V1 => "1",
-            Version::V2 => "2",
+            Version::V1 => 1,
+            Version::V2 => 2,
         },
     }
 }
