@@ -51,6 +51,50 @@ pub fn search_behind(
     Ok(Behind::Nothing)
 }
 
+/// The same search in steps, so that its caller can report how far it is.
+#[derive(Clone, Copy)]
+pub struct BehindSearch {
+    /// How many places were searched.
+    pub searched: usize,
+    left: usize,
+}
+
+impl BehindSearch {
+    /// Nothing was searched yet.
+    pub fn new() -> BehindSearch {
+        BehindSearch {
+            searched: 0,
+            left: MOST_BYTES,
+        }
+    }
+
+    // Searches so many more places; none if the search is to go on.
+    pub(crate) fn step(
+        &mut self,
+        alloc: Global,
+        file: (FileId, Option<Version>),
+        bytes: &[u8],
+        places: usize,
+    ) -> Result<Option<Behind>, Fault> {
+        for _ in 0..places {
+            let rest = bytes.get(self.searched..).unwrap_or(&[]);
+            if rest.is_empty() {
+                return Ok(Some(Behind::Nothing));
+            }
+            if is_written(alloc, file.0, file.1, rest)? {
+                return Ok(Some(Behind::Record));
+            }
+            let len = candidate_len(rest);
+            if self.left <= len {
+                return Ok(Some(Behind::Unsearched));
+            }
+            self.left = self.left.saturating_sub(len);
+            self.searched = self.searched.saturating_add(1);
+        }
+        Ok(None)
+    }
+}
+
 // How many bytes are read where these may begin with a record.
 fn candidate_len(bytes: &[u8]) -> usize
     ensures value { result ≡ headed_len bytes.now }

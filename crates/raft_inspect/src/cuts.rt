@@ -10,7 +10,7 @@ ghost use Rattle.raft_dump.specs.Check.{planned_stop};
 ghost use Rattle.raft_inspect.specs.Cuts.{IsToldOf, IsToldWhy, cut_as, cuts_in, place_in, place_of};
 ghost use Rattle.raft_inspect.specs.Failing.{IsFailing};
 
-use crate::behind::{Behind, search_behind};
+use crate::behind::{Behind, BehindSearch, search_behind};
 use crate::queue_files::QueueFiles;
 use raft_config::RecoveryMode;
 use raft_dump::{FileCheck, LogFile, build_file_reader};
@@ -126,6 +126,20 @@ impl Cut {
             Behind::Record => Ok(Some(Unexplained::Records)),
             Behind::Unsearched => Ok(Some(Unexplained::Unsearched)),
         }
+    }
+}
+
+impl Cut {
+    /// Searches so many more places of the bytes that are cut off for a whole record of the file;
+    /// none if the search is to go on. `unexplained` searches all of them at once.
+    pub fn search(
+        &self,
+        alloc: Global,
+        search: &mut BehindSearch,
+        bytes: &[u8],
+        places: usize,
+    ) -> Result<Option<Behind>, Fault> {
+        search.step(alloc, (self.id, self.version), bytes, places)
     }
 }
 

@@ -74,7 +74,7 @@ fn place_fields(place: Option<RecordPlace>) -> [Field<'static>; 3] {
     };
     [
         ("queue", Word::Text(queue)),
-        ("file", Word::Number(number)),
+        ("number", Word::Number(number)),
         ("offset", Word::Number(offset)),
     ]
 }

@@ -17,7 +17,7 @@ mod spelling;
 mod svg;
 mod usage;
 
-pub use behind::{Behind, search_behind};
+pub use behind::{Behind, BehindSearch, search_behind};
 pub use cuts::{Cut, Unexplained, cuts_of};
 pub use filter::{Filter, ItemKind};
 pub use items::{add_fault, add_item};

@@ -1,7 +1,6 @@
 //! Lines of what can be read of each log file, and of what an opening would do with it.
 
 use crate::lines::{Lines, Word};
-use crate::losses::Passed;
 use crate::queue_files::QueueFiles;
 use raft_config::RecoveryMode;
 use raft_dump::{FileCheck, LogFile, Planned};
@@ -16,7 +15,7 @@ pub fn queue_name(queue: LogQueue) -> &'static str {
     }
 }
 
-/// Adds a line for each file of a queue, one for each number that is missing or doubled, and one for those passed over.
+/// Adds a line for each file of a queue, and one for each number that is missing or doubled.
 pub fn add_queue(alloc: Global, found: &QueueFiles, lines: &mut Lines) -> Result<(), Fault> {
     let absolute = found.plan(alloc, RecoveryMode::AbsoluteConsistency)?;
     let tail = found.plan(alloc, RecoveryMode::TolerateTailCorruption)?;
@@ -33,22 +32,6 @@ pub fn add_queue(alloc: Global, found: &QueueFiles, lines: &mut Lines) -> Result
         };
         add_file(file, check, plans, lines)?;
     }
-    match found.passed() {
-        Some(passed) => add_passed(passed, lines),
-        None => Ok(()),
-    }
-}
-
-// Adds a line of the files that an opening in each mode passes over.
-fn add_passed(passed: Passed, lines: &mut Lines) -> Result<(), Fault> {
-    lines.named(&[
-        ("passed-over", Word::Text(queue_name(passed.queue))),
-        ("files", Word::Number(passed.files)),
-        ("bytes", Word::Number(passed.bytes)),
-        ("first", Word::Number(passed.first)),
-        ("last", Word::Number(passed.last)),
-        ("missing", Word::Number(passed.missing)),
-    ])?;
     Ok(())
 }
 
@@ -98,7 +81,7 @@ fn add_file(
 ) -> Result<(), Fault> {
     lines.named(&[
         ("file", Word::Bytes(file.path.as_bytes())),
-        ("version", Word::Text(version_name(check))),
+        ("version", Word::Number(version_number(check))),
         ("records", Word::Number(check.records as u64)),
         ("read", Word::Number(check.end as u64)),
         ("size", Word::Number(check.len as u64)),
@@ -110,12 +93,13 @@ fn add_file(
     Ok(())
 }
 
-fn version_name(check: &FileCheck) -> &'static str {
+// The version in a file's header, 0 without a header.
+fn version_number(check: &FileCheck) -> u64 {
     match check.format {
-        None => "none",
+        None => 0,
         Some(format) => match format.version {
-            Version::V1 => "1",
-            Version::V2 => "2",
+            Version::V1 => 1,
+            Version::V2 => 2,
         },
     }
 }
