@@ -10,6 +10,7 @@ mod growing;
 mod joining;
 pub mod key_hash;
 mod leaving;
+mod memory;
 pub mod memtable;
 pub mod memtables;
 mod moving;
