@@ -15,6 +15,16 @@ impl DefaultMachineFactory {
     }
 }
 
+impl Fresh for DefaultMachineFactory {
+    ghost use Rattle.std.specs.Prelude.{⊤};
+
+    ghost is_fresh = { λ _. ⊤ };
+
+    fn fresh(alloc: Global) -> DefaultMachineFactory {
+        DefaultMachineFactory::new(alloc)
+    }
+}
+
 impl<M: Fresh> Factory<M> for DefaultMachineFactory {
     ghost is_new = { λ machine. M.is_fresh machine };
 
