@@ -1,11 +1,13 @@
 //! The command line.
 
 use crate::change_forms::CHANGE_FORMS;
+use crate::escaping::printable;
 use crate::forms::{CHANGE_OPTIONS, EACH, Form, Kind, LookSort, OPTIONS, STATUSES, Sort, Word};
 use crate::look_forms::LOOK_FORMS;
 use crate::modes::mode_named;
 use crate::request::{
     Changing, Dump, Import, Indexes, Load, Look, Options, Purge, Range, Request, Salvage, Verb,
+    Watch,
 };
 use clap::error::ErrorKind;
 use clap::{Arg, ArgAction, ArgMatches, Command, Error, value_parser};
@@ -37,6 +39,11 @@ fn is_known(word: &str) -> bool {
     word.starts_with('-') || word == "help" || sort_named(word).is_some()
 }
 
+// Whether a word is the name of a command.
+pub(crate) fn is_command(word: &str) -> bool {
+    sort_named(word).is_some()
+}
+
 // What the command of a name does.
 fn sort_named(name: &str) -> Option<Sort> {
     sort_among(&LOOK_FORMS, name).or(sort_among(&CHANGE_FORMS, name))
@@ -59,15 +66,30 @@ fn read_request<'a>(alloc: Global, matches: &ArgMatches<'a>) -> Result<Request<'
     };
     let options = read_options(alloc, rest)?;
     let mut whole = true;
-    let verb = match sort_named(name) {
-        Some(sort) => read_verb(alloc, sort, rest, &mut whole)?,
-        None => return Err(Error::from(AllocError)),
+    let Some(sort) = sort_named(name) else {
+        return Err(Error::from(AllocError));
     };
+    check_json(alloc, name, sort, &options)?;
+    let verb = read_verb(alloc, sort, rest, &mut whole)?;
     if !whole {
         return Err(Error::from(AllocError));
     }
     let no_sync = rest.get_flag("no-sync");
     Ok(Request::new(folder, options, verb, no_sync))
+}
+
+// Each line is an object if objects are asked for, and bytes alone or a picture are none.
+fn check_json(alloc: Global, name: &str, sort: Sort, options: &Options<'_>) -> Result<(), Error> {
+    if !options.json {
+        return Ok(());
+    }
+    if options.raw {
+        return Err(wrong(alloc, "--json", "--raw", "left out beside --raw"));
+    }
+    if let Sort::Look(LookSort::Picture) = sort {
+        return Err(wrong(alloc, "--json", name, "no option of picture: it prints SVG"));
+    }
+    Ok(())
 }
 
 fn read_options<'a>(alloc: Global, matches: &ArgMatches<'a>) -> Result<Options<'a>, Error> {
@@ -180,18 +202,33 @@ fn read_purge(alloc: Global, matches: &ArgMatches<'_>) -> Result<Purge, Error> {
 
 // A word that isn't what is wanted at its place.
 fn wrong(alloc: Global, name: &str, word: &str, wanted: &str) -> Error {
-    match format!(in alloc; "{name} is {wanted}, and not `{word}`") {
+    match text_of_wrong(alloc, name, word, wanted) {
         Ok(said) => refused(alloc, ErrorKind::InvalidValue, said.as_str()),
         Err(error) => Error::from(error),
     }
 }
 
+fn text_of_wrong(
+    alloc: Global,
+    name: &str,
+    word: &str,
+    wanted: &str,
+) -> Result<String, AllocError> {
+    let word = printable(alloc, word)?;
+    format!(in alloc; "{name} is {wanted}, and not `{word}`")
+}
+
 // A word that is no command.
 fn unknown(alloc: Global, word: &str) -> Error {
-    match format!(in alloc; "no command `{word}`; `raftctl --help` lists them") {
+    match text_of_unknown(alloc, word) {
         Ok(said) => refused(alloc, ErrorKind::InvalidSubcommand, said.as_str()),
         Err(error) => Error::from(error),
     }
+}
+
+fn text_of_unknown(alloc: Global, word: &str) -> Result<String, AllocError> {
+    let word = printable(alloc, word)?;
+    format!(in alloc; "no command `{word}`; `raftctl --help` lists them")
 }
 
 fn refused(alloc: Global, kind: ErrorKind, said: &str) -> Error {
@@ -306,6 +343,7 @@ fn read_verb<'a>(
         Sort::Repair => Verb::Repair,
         Sort::Import => Verb::Import(read_import(alloc, matches)?),
         Sort::Settings => Verb::Settings,
+        Sort::Watch => Verb::Watch(read_watch(matches)),
         Sort::Fork => Verb::Fork(text(matches, "TARGET", whole)),
         Sort::Salvage => Verb::Salvage(read_salvage(alloc, matches, whole)?),
         Sort::Dump => Verb::Look(Look::Dump(read_dump(alloc, matches)?)),
@@ -348,6 +386,14 @@ fn read_range<'a>(matches: &ArgMatches<'a>) -> Range<'a> {
         to: matches.get_str("to"),
         limit: matches.get_one("limit"),
         reverse: matches.get_flag("reverse"),
+    }
+}
+
+fn read_watch(matches: &ArgMatches<'_>) -> Watch {
+    Watch {
+        each: matches.get_one("each").unwrap_or(1),
+        count: matches.get_one("count"),
+        groups: matches.get_one("groups").unwrap_or(10),
     }
 }
 

@@ -5,51 +5,73 @@ use crate::forms::{CHANGE_OPTIONS, Form, Kind, OPTIONS, Word};
 use crate::look_forms::LOOK_FORMS;
 use std::alloc::{AllocError, Global};
 
-/// What stands before the words of the commands, and behind them.
+/// What precedes the names of the commands, and what follows them.
 const FRONT: &str = "\
-# Completion of raftctl for bash: eval \"$(raftctl --completion)\"
-# zsh takes the same line after: autoload -U +X bashcompinit && bashcompinit
+# Completion of raftctl for bash and zsh: eval \"$(raftctl --completion)\"
+if [ -n \"${ZSH_VERSION-}\" ]; then
+    autoload -U +X compinit && compinit
+    autoload -U +X bashcompinit && bashcompinit
+fi
 _raftctl_names() {
     local name
-    COMPREPLY=()
     while IFS= read -r name; do COMPREPLY+=(\"$name\"); done < <(compgen \"$1\" -- \"$2\")
     compopt -o filenames 2>/dev/null
 }
 _raftctl() {
-    local word=${COMP_WORDS[COMP_CWORD]} before=${COMP_WORDS[COMP_CWORD-1]} words=
+    local word=${COMP_WORDS[COMP_CWORD]} before=${COMP_WORDS[COMP_CWORD-1]} offered= place=2
+    COMPREPLY=()
     if [ \"$COMP_CWORD\" -eq 1 ]; then
-        _raftctl_names -d \"$word\"
+        case $word in
+        -*) COMPREPLY=($(compgen -W \"--help --version --completion\" -- \"$word\")) ;;
+        *) _raftctl_names -d \"$word\" ;;
+        esac
         return
     fi
-    if [ \"$COMP_CWORD\" -eq 2 ]; then
-        COMPREPLY=($(compgen -W \"";
+    while [ \"$place\" -lt \"$COMP_CWORD\" ]; do
+        case ${COMP_WORDS[place]} in
+        --json | --hex | --quiet) place=$((place + 1)) ;;
+        *) break ;;
+        esac
+    done
+    if [ \"$COMP_CWORD\" -eq \"$place\" ]; then
+        case $word in
+        -*) offered=\"--json --hex --quiet --help\" ;;
+        *) offered=\"";
 
-const MIDDLE: &str = "\" -- \"$word\"))
+const MIDDLE: &str = "\" ;;
+        esac
+        COMPREPLY=($(compgen -W \"$offered\" -- \"$word\"))
         return
     fi
     case $before in
-    --mode) words=\"absolute tail any\" ;;
-    --kind) words=\"put delete entry clean compact\" ;;
-    rewrite) words=\"append rewrite stale\" ;;
+    --mode) offered=\"absolute tail any\" ;;
+    --kind) offered=\"put delete entry clean compact\" ;;
+    --each | --count | --groups | --group | --from | --to | --at | --limit) return ;;
+    --target | --threads | --wait | --sync-each | --purge-each) return ;;
+    --spill | --from-spill)
+        _raftctl_names -d \"$word\"
+        return
+        ;;
+    rewrite) [ \"$COMP_CWORD\" -eq $((place + 1)) ] && offered=\"append rewrite stale\" ;;
     esac
-    if [ -n \"$words\" ]; then
-        COMPREPLY=($(compgen -W \"$words\" -- \"$word\"))
+    if [ -n \"$offered\" ]; then
+        COMPREPLY=($(compgen -W \"$offered\" -- \"$word\"))
         return
     fi
-    case ${COMP_WORDS[2]} in
+    case ${COMP_WORDS[place]} in
 ";
 
 const END: &str = "\
     esac
     case $word in
-    -*) COMPREPLY=($(compgen -W \"$words\" -- \"$word\")) ;;
+    -*) COMPREPLY=($(compgen -W \"$offered\" -- \"$word\")) ;;
     *) _raftctl_names -f \"$word\" ;;
     esac
 }
 complete -F _raftctl raftctl
 ";
 
-/// A script for bash, of all commands and their words.
+/// A script for bash and zsh, of all commands and their words.
 pub fn completion_script(alloc: Global) -> Result<String, AllocError> {
     let mut script = String::from_str(alloc, FRONT)?;
     add_all(&mut script)?;
@@ -84,7 +106,7 @@ fn add_forms(forms: &[Form], options: &[Word], script: &mut String) -> Result<()
 fn add_form(form: &Form, options: &[Word], script: &mut String) -> Result<(), AllocError> {
     script.push_str("    ")?;
     script.push_str(form.name)?;
-    script.push_str(") words=\"")?;
+    script.push_str(") offered=\"")?;
     add_words(form.words, script)?;
     add_words(options, script)?;
     add_words(&OPTIONS, script)?;

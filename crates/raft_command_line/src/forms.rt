@@ -28,6 +28,7 @@ pub(crate) enum Sort {
     Settings,
     Fork,
     Salvage,
+    Watch,
     Dump,
     Look(LookSort),
 }

@@ -4,7 +4,7 @@ use crate::forms::{
     COUNT, DRY_RUN, Form, GROUP, KEY, KIND, Kind, LIMIT, LookSort, RAW, SIZE, Sort, Word,
 };
 
-pub(crate) static LOOK_FORMS: [Form; 16] = [
+pub(crate) static LOOK_FORMS: [Form; 17] = [
     Form {
         name: "get",
         sort: Sort::Look(LookSort::Get),
@@ -144,6 +144,29 @@ pub(crate) static LOOK_FORMS: [Form; 16] = [
         about: "Prints a picture in SVG: the files to scale, and what the index refers to of each",
         words: &[],
         example: "Example: raftctl log picture > log.svg",
+    },
+    Form {
+        name: "watch",
+        sort: Sort::Watch,
+        about: "Prints once a second what a running log does: its files, bytes and records, the groups that grow and the dropped files; it leaves the writer its lock. On a terminal it draws a picture, with --json each look is an object",
+        words: &[
+            Word(
+                "each",
+                Kind::Named,
+                "Looks once in so many seconds; 1 if left out",
+            ),
+            Word(
+                "count",
+                Kind::Named,
+                "Ends after so many looks; else it goes on until it is stopped",
+            ),
+            Word(
+                "groups",
+                Kind::Named,
+                "Prints so many groups at most, those that grew most; 10 if left out",
+            ),
+        ],
+        example: "Example: raftctl log watch --json --count 60 > minute.json",
     },
     Form {
         name: "verify",

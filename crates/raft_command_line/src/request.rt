@@ -87,6 +87,7 @@ pub enum Verb<'a> {
     /// The folder of the copy.
     Fork(&'a str),
     Salvage(Salvage<'a>),
+    Watch(Watch),
     Look(Look<'a>),
 }
 
@@ -125,6 +126,17 @@ pub struct Salvage<'a> {
     pub files: Vec<&'a str>,
     /// Whether records are taken that an earlier use of a file left behind.
     pub stale: bool,
+}
+
+/// How a running log is looked at again and again.
+#[derive(Clone, Copy)]
+pub struct Watch {
+    /// How many seconds lie between two looks.
+    pub each: u64,
+    /// How many looks there are; without an end if this is not named.
+    pub count: Option<u64>,
+    /// How many groups are printed at most, of those that grew.
+    pub groups: u64,
 }
 
 /// What to look at, without a change.
@@ -229,6 +241,16 @@ impl<'a> Options<'a> {
             options.spill = Some(spill.as_str());
         }
         options
+    }
+
+    /// The size at which a log file is full, as a word names it or the settings; 0 before these were
+    /// read.
+    pub fn target_bytes(&self) -> u64 {
+        match (self.target, self.base) {
+            (Some(target), _) => target.0,
+            (None, Some(settings)) => settings.target_file_size.0,
+            (None, None) => 0,
+        }
     }
 
     /// The folders whose log files are read, by their paths from the first one.

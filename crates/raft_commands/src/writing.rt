@@ -203,7 +203,8 @@ fn carry_out<F: FileSystem>(
         | Verb::Fork(_)
         | Verb::Look(_)
         | Verb::Import(_)
-        | Verb::Salvage(_) => Ok(()),
+        | Verb::Salvage(_)
+        | Verb::Watch(_) => Ok(()),
     }
 }
 

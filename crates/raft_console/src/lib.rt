@@ -2,6 +2,7 @@
 #![tactic(auto)]
 
 mod input;
+mod limits;
 mod line_input;
 mod output;
 mod progress;
@@ -11,6 +12,7 @@ mod telling;
 
 use anyhow::anyhow;
 pub use input::{bytes_of, file_or_input};
+pub use limits::tell_file_limit;
 pub use line_input::{
     EntryLine, GroupValue, LineForm, Pair, Spelling, member, read_entry_lines, read_lines,
     read_object, read_values,
