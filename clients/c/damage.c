@@ -12,28 +12,8 @@
 
 static const char magic[] = "RAFT-LOG-FILE-HEADER-9986AB3E47F320B394C8E84916EB0ED5";
 
-/* Bytes of the header of a file of version 1, and of version 2, and of a record's. */
-enum { HEADER = 61, LONG_HEADER = 69, HEAD = 16, CHECKSUM = 4 };
-
-static uint32_t crc_of(const uint8_t *at, size_t len) {
-    static uint32_t table[256];
-    for (uint32_t i = 0; !table[255] && i < 256; i++) {
-        uint32_t value = i;
-        for (int bit = 0; bit < 8; bit++) value = value & 1 ? 0xEDB88320u ^ value >> 1 : value >> 1;
-        table[i] = value;
-    }
-    uint32_t crc = 0xFFFFFFFFu;
-    for (size_t i = 0; i < len; i++) crc = table[(crc ^ at[i]) & 255] ^ crc >> 8;
-    return ~crc;
-}
-
-/* Whether the last four bytes are the checksum of those before, under a signature. */
-static bool has_checksum(const uint8_t *at, size_t len, uint32_t signature) {
-    uint32_t kept;
-    if (len < CHECKSUM) return false;
-    memcpy(&kept, at + len - CHECKSUM, CHECKSUM);
-    return (crc_of(at, len - CHECKSUM) ^ signature) == le32toh(kept);
-}
+/* Bytes of the header of a file of version 1, and of version 2. */
+enum { HEADER = 61, LONG_HEADER = 69 };
 
 static bool are_zeros(const uint8_t *at, size_t len) {
     return !len || (!*at && !memcmp(at, at + 1, len - 1));
@@ -41,13 +21,13 @@ static bool are_zeros(const uint8_t *at, size_t len) {
 
 /* What is wrong with the record at a place, or NULL and its length. */
 static const char *record_damage(const uint8_t *at, size_t left, uint32_t signature, size_t *len) {
-    if (left < HEAD) return "the file ends within a record";
-    uint64_t head = parts_number(at), footer = parts_number(at + 8), all = head >> 8;
-    if ((head & 255) > 1 || footer < HEAD || all < footer || all - footer <= CHECKSUM) return "this is no record's header";
-    if (all > left) return "the file ends within a record";
-    if (!has_checksum(at + footer, all - footer, signature)) return "a record's checksum is wrong";
-    if (footer > HEAD && !has_checksum(at + HEAD, footer - HEAD, 0)) return "the checksum of a record's entries is wrong";
-    *len = all;
+    struct parts_record record;
+    if (left < PARTS_RECORD_HEADER) return "the file ends within a record";
+    if (!parts_read_header(at, left, &record)) return "this is no record's header";
+    if (record.len > left) return "the file ends within a record";
+    if (parts_signature(at, &record) != signature) return "a record's checksum is wrong";
+    if (!parts_has_sound_block(at, &record)) return "the checksum of a record's entries is wrong";
+    *len = record.len;
     return NULL;
 }
 

@@ -67,41 +67,9 @@ static int resize(raftlog *log, uint64_t size, bool cut) {
     return ftruncate(log->file, (off_t)size) ? errno : 0;
 }
 
-/* Whether only zeros stand in the open file between two places; what can't be read is none. */
-static bool are_zeros(int fd, uint64_t at, uint64_t end) {
-    static const uint8_t zeros[4096];
-    uint8_t bytes[sizeof zeros];
-    while (at < end) {
-        size_t len = end - at < sizeof bytes ? (size_t)(end - at) : sizeof bytes;
-        ssize_t moved = pread(fd, bytes, len, (off_t)at);
-        if (moved < 0 && errno == EINTR) continue;
-        if (moved <= 0 || memcmp(bytes, zeros, (size_t)moved)) return false;
-        at += (uint64_t)moved;
-    }
-    return true;
-}
-
-static int note_cut(raftlog *log, const char *path, uint64_t at, uint64_t end) {
-    if (log->cut_count == log->cut_room) {
-        size_t room = log->cut_room ? 2 * log->cut_room : 8;
-        raftlog_cut *cuts = realloc(log->cuts, room * sizeof *cuts);
-        if (!cuts) return ENOMEM;
-        log->cuts = cuts;
-        log->cut_room = room;
-    }
-    char *name = strdup(path);
-    if (!name) return ENOMEM;
-    log->cuts[log->cut_count++] = (raftlog_cut){name, at, end - at};
-    return 0;
-}
-
 /* Cuts the open file, and notes what an opening cuts off. */
 static int cut_file(raftlog *log, const char *path, uint64_t size) {
-    struct stat found;
-    if (fstat(log->file, &found)) return errno;
-    uint64_t end = (uint64_t)found.st_size;
-    bool is_told = log->is_opening && size < end && !are_zeros(log->file, size, end);
-    int error = is_told ? note_cut(log, path, size, end) : 0;
+    int error = log->is_opening ? parts_note_cut(log, path, size) : 0;
     return error ? error : resize(log, size, true);
 }
 

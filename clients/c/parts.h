@@ -290,4 +290,28 @@ bool parts_is_log_name(const char *name);
 /* Why an opening found corruption: the first damage of a log file, and its place. */
 void parts_tell_damage(const raftlog *log, char *text, size_t room);
 
+/* Notes what an opening cuts off the open file, of this path from the folder, if it cuts it to this size. */
+int parts_note_cut(raftlog *log, const char *path, uint64_t size);
+void parts_forget_cuts(raftlog *log);
+
+/* A record at a place in a file's bytes: where its footer begins, and its length. */
+struct parts_record {
+    size_t footer, len;
+};
+
+enum { PARTS_RECORD_HEADER = 16 };
+
+/* False if the bytes begin with no record's header. The record may be longer than they are. */
+bool parts_read_header(const uint8_t *at, size_t left, struct parts_record *record);
+/* Under which signature the footer's checksum holds, of a record that ends in its file. */
+uint32_t parts_signature(const uint8_t *at, const struct parts_record *record);
+/* Whether the checksum of its entries holds. */
+bool parts_has_sound_block(const uint8_t *at, const struct parts_record *record);
+
+/* Copies a struct to one that may be shorter or longer in the program that gets it: then zeros follow. */
+static inline void parts_copy_sized(void *to, size_t size, const void *from, size_t known) {
+    memcpy(to, from, size < known ? size : known);
+    if (size > known) memset((uint8_t *)to + known, 0, size - known);
+}
+
 #endif

@@ -51,8 +51,7 @@ static void let_go(raftlog *log) {
     free(log->orders);
     parts_unlock(log);
     parts_let_folders_go(log);
-    for (size_t i = 0; i < log->cut_count; i++) free((char *)log->cuts[i].path);
-    free(log->cuts);
+    parts_forget_cuts(log);
     pthread_mutex_destroy(&log->lock);
     free(log->folder);
     free(log);
@@ -141,12 +140,6 @@ int raftlog_open_memory(const char *settings, raftlog **out, char *text, size_t 
     return open_log(NULL, settings, NULL, NULL, out, text, room);
 }
 
-size_t raftlog_cuts(raftlog *log, raftlog_cut *cuts, size_t room) {
-    if (!log) return 0;
-    for (size_t i = 0; cuts && i < log->cut_count && i < room; i++) cuts[i] = log->cuts[i];
-    return log->cut_count;
-}
-
 /* In a child that was forked: frees memory alone. Nothing is freed if a thread of the parent was in a call on the log, since
  * what that call had in hand may be half done. */
 static int close_forked(raftlog *log) {
@@ -194,8 +187,7 @@ int raftlog_stats(raftlog *log, raftlog_counts *counts, size_t size) {
     if (!parts_begin_read(log)) return parts_fail_closed(log);
     copy_counts(log, &all);
     parts_end_read(log);
-    memcpy(counts, &all, size < sizeof all ? size : sizeof all);
-    if (size > sizeof all) memset((uint8_t *)counts + sizeof all, 0, size - sizeof all);
+    parts_copy_sized(counts, size, &all, sizeof all);
     return RAFTLOG_OK;
 }
 

@@ -182,16 +182,20 @@ int raftlog_open_watched(const char *folder, const char *settings, raftlog_progr
 int raftlog_open_memory(const char *settings, raftlog **out, char *text, size_t room);
 
 /* What an opening cut off a log file: bytes from an offset on, after the last record that can be read. They may be of
- * a write that was not synced, or what an earlier file left in a recycled one. */
+ * a write that was not synced, or what an earlier file left in a recycled one. A later version may add fields at the
+ * end. */
 typedef struct {
     const char *path; /* of the file, from the folder; it lasts until the log is closed */
     uint64_t offset, len;
+    bool stale; /* the first record in these bytes is an earlier file's, as usual after a kill if files are recycled */
 } raftlog_cut;
 
 /* Returns how many cuts the opening made, and stores the first of them, at most `room`, in `cuts`, which may be NULL
- * if `room` is 0. Zeros, which contain nothing, and files that an opening ignores are not among them: `raftctl FOLDER
- * check` reports these, and before an opening what it would cut. */
-size_t raftlog_cuts(raftlog *log, raftlog_cut *cuts, size_t room);
+ * if `room` is 0. `size` is sizeof(raftlog_cut), as for `raftlog_stats`. Zeros, which contain nothing, and files that an
+ * opening ignores are not among them: `raftctl FOLDER check` reports these, and before an opening what it would cut. A
+ * monitor reports the cuts that are not stale. It cannot learn from `stale` whether a write that was not synced, or a
+ * damaged last record, is before the stale record. */
+size_t raftlog_cuts(raftlog *log, raftlog_cut *cuts, size_t room, size_t size);
 
 /* Syncs, closes and frees the log, whatever it returns. After RAFTLOG_OK all that was written survives a crash. After
  * RAFTLOG_IO or RAFTLOG_FAILED the next opening finds all that was done before; if the machine crashes first, all that

@@ -7,6 +7,7 @@
 #include <string.h>
 #include <signal.h>
 #include <sys/resource.h>
+#include <sys/wait.h>
 #include <unistd.h>
 
 #define CHECK(what) do { if (!(what)) { printf("%s:%d: %s\n", __FILE__, __LINE__, #what); exit(1); } } while (0)
@@ -51,7 +52,7 @@ static void cuts(const char *folder) {
     snprintf(place, sizeof place, "%s/cut", folder);
     raftlog *log = open_at(place);
     raftlog_cut found[2];
-    CHECK(raftlog_cuts(log, found, 2) == 0 && raftlog_cuts(NULL, NULL, 0) == 0);
+    CHECK(raftlog_cuts(log, found, 2, sizeof *found) == 0 && raftlog_cuts(NULL, NULL, 0, 0) == 0);
     CHECK(raftlog_close(log) == 0);
     snprintf(place, sizeof place, "%s/cut/0000000000000001.raftlog", folder);
     FILE *file = fopen(place, "ab");
@@ -60,10 +61,70 @@ static void cuts(const char *folder) {
     CHECK(fwrite("torn", 4, 1, file) == 1 && fclose(file) == 0);
     snprintf(place, sizeof place, "%s/cut", folder);
     log = open_at(place);
-    CHECK(raftlog_cuts(log, NULL, 0) == 1 && raftlog_cuts(log, found, 2) == 1);
+    CHECK(raftlog_cuts(log, NULL, 0, 0) == 1 && raftlog_cuts(log, found, 2, sizeof *found) == 1);
     CHECK(!strcmp(found[0].path, "0000000000000001.raftlog"));
-    CHECK(found[0].offset == (uint64_t)end && found[0].len == 4);
+    CHECK(found[0].offset == (uint64_t)end && found[0].len == 4 && !found[0].stale);
+    /* A program that was built with a shorter struct, and one with a longer one. */
+    struct { const char *path; uint64_t offset; } less[2] = {{"", 7}, {"", 7}};
+    struct { raftlog_cut known; uint64_t more; } longer[2] = {{found[0], 7}, {found[0], 7}};
+    CHECK(raftlog_cuts(log, (raftlog_cut *)less, 2, sizeof *less) == 1);
+    CHECK(less[0].offset == (uint64_t)end && less[1].offset == 7);
+    CHECK(raftlog_cuts(log, (raftlog_cut *)longer, 2, sizeof *longer) == 1);
+    CHECK(longer[0].known.len == 4 && longer[0].more == 0 && longer[1].more == 7);
     CHECK(raftlog_close(log) == 0);
+}
+
+/* Fills files, drops them, writes in one of them again, and ends without a close */
+static void use_again(const char *place) {
+    const char *settings = "target-file-size = \"4KB\"\nenable-log-recycle = true\nprefill-for-recycle = false";
+    char text[300], value[300] = "";
+    raftlog *log;
+    raftlog_batch *batch = raftlog_batch_new();
+    int code = raftlog_open(place, settings, &log, text, sizeof text);
+    for (int i = 0; !code && i < 64; i++) {
+        code = raftlog_batch_put(batch, 1, "key", 3, value, 200);
+        if (!code) code = raftlog_write(log, batch, true);
+        if (!code && i == 40) code = raftlog_must_rewrite_append_queue(log, NULL);
+    }
+    _exit(code);
+}
+
+/* Makes such a log in a folder, by a process of its own */
+static void leave_open(const char *place) {
+    pid_t child = fork();
+    if (!child) use_again(place);
+    int status;
+    CHECK(waitpid(child, &status, 0) == child && WIFEXITED(status) && WEXITSTATUS(status) == 0);
+}
+
+/* The only cut of an opening */
+static raftlog_cut one_cut(const char *place, char *path, size_t room) {
+    raftlog_cut found[2];
+    raftlog *log = open_at(place);
+    CHECK(raftlog_cuts(log, found, 2, sizeof *found) == 1);
+    snprintf(path, room, "%s/%s", place, found[0].path);
+    CHECK(raftlog_close(log) == 0);
+    return found[0];
+}
+
+/* What an earlier file left is stale; the file's own records, after one that is damaged, are not */
+static void stale_cuts(const char *folder) {
+    char place[1000], path[2000], again[2000];
+    snprintf(place, sizeof place, "%s/stale", folder);
+    leave_open(place);
+    raftlog_cut cut = one_cut(place, path, sizeof path);
+    CHECK(cut.stale && cut.offset > 500 && cut.len > 200);
+    raftlog *log = open_at(place);
+    CHECK(raftlog_cuts(log, NULL, 0, 0) == 0);
+    CHECK(raftlog_close(log) == 0);
+
+    snprintf(place, sizeof place, "%s/damaged", folder);
+    leave_open(place);
+    snprintf(again, sizeof again, "%s/%s", place, strrchr(path, '/') + 1);
+    FILE *file = fopen(again, "r+b");
+    CHECK(file && fseek(file, 100, SEEK_SET) == 0 && fputc(0xff, file) == 0xff && fclose(file) == 0);
+    cut = one_cut(place, path, sizeof path);
+    CHECK(!strcmp(path, again) && cut.offset < 100 && !cut.stale);
 }
 
 /* Scans of keys */
@@ -411,6 +472,7 @@ int main(int argc, char **argv) {
     CHECK(raftlog_open("/proc/none/x", NULL, &log, text, sizeof text) == RAFTLOG_FOLDER);
     CHECK(raftlog_open(NULL, NULL, &log, NULL, 0) == RAFTLOG_INVALID && raftlog_close(NULL) == 0);
     cuts(argv[1]);
+    stale_cuts(argv[1]);
     counts(argv[1]);
     puts("ok");
     return 0;

@@ -25,7 +25,7 @@ import (
 // settings are those of `kv serve`.
 type settings struct {
 	id, groups                      uint64
-	peers, listen, http             string
+	peers, listen, http, nodes      string
 	folder, store, log              string
 	begin                           bool
 	snapshotEntries, keepEntries    uint64
@@ -39,6 +39,8 @@ func readSettings(arguments []string) (settings, error) {
 	flags.StringVar(&s.peers, "peers", "", "where the nodes listen for each other, in their order")
 	flags.StringVar(&s.listen, "listen", "", "where this node listens, if not as --peers says")
 	flags.StringVar(&s.http, "http", "127.0.0.1:8101", "where it answers HTTP")
+	flags.StringVar(&s.nodes, "nodes", "",
+		"where all nodes answer HTTP, in their order, for the page at /; if left out, it draws this node")
 	flags.StringVar(&s.folder, "folder", "", "the folder of its log")
 	flags.BoolVar(&s.begin, "begin", false, "begin a new node in a folder without one")
 	flags.Uint64Var(&s.groups, "groups", 1, "how many Raft groups share the log")
@@ -62,6 +64,8 @@ func readSettings(arguments []string) (settings, error) {
 		return s, usageError{fmt.Errorf("kv serve needs --id, --peers and --folder")}
 	case s.id == 0 || s.id > uint64(len(peers)):
 		return s, usageError{fmt.Errorf("--id is 1 to %d, by the place in --peers", len(peers))}
+	case s.nodes != "" && len(strings.Split(s.nodes, ",")) != len(peers):
+		return s, usageError{fmt.Errorf("--nodes has as many addresses as --peers")}
 	case s.groups == 0 || s.snapshotEntries == 0 || s.purgeEvery <= 0:
 		return s, usageError{fmt.Errorf("--groups, --snapshot-entries and --purge-every are above 0")}
 	}
@@ -77,6 +81,18 @@ func (s settings) addresses() map[uint64]string {
 		addresses[uint64(i)+1] = address
 	}
 	return addresses
+}
+
+// shown are the nodes that the page at / draws.
+func (s settings) shown() []server.Address {
+	if s.nodes == "" {
+		return []server.Address{{Node: s.id, HTTP: s.http}}
+	}
+	var all []server.Address
+	for i, address := range strings.Split(s.nodes, ",") {
+		all = append(all, server.Address{Node: uint64(i) + 1, HTTP: address})
+	}
+	return all
 }
 
 // stores are those of --store, of which compare.go has more.
@@ -178,7 +194,9 @@ func runNode(s settings, store storage.Store, logger *log.Logger) error {
 // answer answers users until a signal comes, or the store fails.
 func answer(s settings, n *node.Node, counts server.Log, listener net.Listener) error {
 	users := &http.Server{
-		Handler:           &server.Server{Node: n, Log: counts, Groups: s.groups, Timeout: s.timeout},
+		Handler: &server.Server{
+			Node: n, Log: counts, Nodes: s.shown(), Groups: s.groups, Timeout: s.timeout,
+		},
 		ReadHeaderTimeout: s.timeout,
 	}
 	go users.Serve(listener)

@@ -328,24 +328,26 @@ func (e *Engine) Stats() (Stats, error) {
 	return stats, nil
 }
 
-// A Cut is what the opening cut off of a log file: so many bytes from an offset on, behind the last record that could be
-// read.
+// A Cut is what the opening cut off a log file: so many bytes from an offset on, after the last record that can be read.
+// Stale says that the first record in these bytes is an earlier file's, as usual after a kill if files are recycled.
 type Cut struct {
 	Path        string // of the file, from the folder
 	Offset, Len uint64
+	Stale       bool
 }
 
-// Cuts tells what the opening cut off, but for zeros.
+// Cuts returns what the opening cut off, except zeros.
 func (e *Engine) Cuts() ([]Cut, error) {
 	e.mutex.RLock()
 	defer e.mutex.RUnlock()
 	if e.log == nil {
 		return nil, &Error{Failed, "the log is closed"}
 	}
-	found := make([]C.raftlog_cut, C.raftlog_cuts(e.log, nil, 0)+1)
-	cuts := make([]Cut, C.raftlog_cuts(e.log, &found[0], C.size_t(len(found))))
+	found := make([]C.raftlog_cut, C.raftlog_cuts(e.log, nil, 0, 0)+1)
+	cuts := make([]Cut, C.raftlog_cuts(e.log, &found[0], C.size_t(len(found)), C.sizeof_raftlog_cut))
 	for i := range cuts {
-		cuts[i] = Cut{C.GoString(found[i].path), uint64(found[i].offset), uint64(found[i].len)}
+		cut := &found[i]
+		cuts[i] = Cut{C.GoString(cut.path), uint64(cut.offset), uint64(cut.len), bool(cut.stale)}
 	}
 	return cuts, nil
 }

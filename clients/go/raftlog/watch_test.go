@@ -66,7 +66,7 @@ func TestCuts(t *testing.T) {
 	_, err = end.WriteString("torn")
 	must(t, err)
 	must(t, end.Close())
-	for _, want := range [][]Cut{{{filepath.Base(file), uint64(is.Size()), 4}}, {}} {
+	for _, want := range [][]Cut{{{filepath.Base(file), uint64(is.Size()), 4, false}}, {}} {
 		log, err := Open(folder, "")
 		must(t, err)
 		cuts, err := log.Cuts()
@@ -79,6 +79,39 @@ func TestCuts(t *testing.T) {
 			t.Fatal(err)
 		}
 	}
+}
+
+// A copy of an open log, whose last file was used before.
+func TestStaleCuts(t *testing.T) {
+	folder, copied := filepath.Join(t.TempDir(), "log"), t.TempDir()
+	settings := "target-file-size = \"4KB\"\nenable-log-recycle = true\nprefill-for-recycle = false"
+	log, err := Open(folder, settings)
+	must(t, err)
+	var b Batch
+	for i := 0; i < 60; i++ {
+		b.Put(1, []byte("key"), make([]byte, 200))
+		must(t, log.Write(&b, true))
+		if i == 40 {
+			_, err := log.MustRewriteAppendQueue()
+			must(t, err)
+		}
+	}
+	files, err := filepath.Glob(filepath.Join(folder, "*.r*"))
+	must(t, err)
+	for _, file := range files {
+		bytes, err := os.ReadFile(file)
+		must(t, err)
+		must(t, os.WriteFile(filepath.Join(copied, filepath.Base(file)), bytes, 0o600))
+	}
+	must(t, log.Close())
+	log, err = Open(copied, "")
+	must(t, err)
+	cuts, err := log.Cuts()
+	must(t, err)
+	if len(cuts) != 1 || !cuts[0].Stale {
+		t.Fatal(cuts)
+	}
+	must(t, log.Close())
 }
 
 func areSame(one, other []Cut) bool {

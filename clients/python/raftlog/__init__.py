@@ -1,5 +1,6 @@
 """A log for many Raft groups in a folder, over the shared library libraftlog: that of the path RAFTLOG_SO, else the one that
 this package carries, that `make -C clients/c` builds in a checkout, that pkg-config knows, or that the system finds."""
+import collections
 import ctypes
 import os
 import struct
@@ -69,8 +70,11 @@ class Stats(ctypes.Structure):
         return "Stats(%s)" % ", ".join("%s=%s" % item for item in self.as_dict().items())
 
 
+Cut = collections.namedtuple("Cut", "path offset len stale")
+
+
 class _Cut(ctypes.Structure):
-    _fields_ = [("path", c_char_p), ("offset", c_uint64), ("len", c_uint64)]
+    _fields_ = [("path", c_char_p), ("offset", c_uint64), ("len", c_uint64), ("stale", c_bool)]
 
 
 class _Bytes(ctypes.Structure):
@@ -89,7 +93,7 @@ for _name, _result, _arguments in [
     ("open_memory", c_int, [c_char_p, POINTER(c_void_p), c_char_p, c_size_t]),
     ("close", c_int, [c_void_p]),
     ("stats", c_int, [c_void_p, POINTER(Stats), c_size_t]),
-    ("cuts", c_size_t, [c_void_p, POINTER(_Cut), c_size_t]),
+    ("cuts", c_size_t, [c_void_p, POINTER(_Cut), c_size_t, c_size_t]),
     ("message", c_size_t, [c_void_p, c_char_p, c_size_t]),
     ("code_text", c_char_p, [c_int]),
     ("survive_bus_errors", c_int, []),
@@ -253,14 +257,15 @@ class Engine:
         return stats
 
     def cuts(self):
-        """What the opening cut off of log files behind the last record that could be read, but for zeros: of each file its
-        path from the folder, the first byte that is gone, and how many are."""
+        """What the opening cut off log files after the last record that can be read, except zeros. A Cut has the path
+        from the folder, the offset of the first byte, the length, and whether the first record there is an earlier file's,
+        as usual after a kill if files are recycled."""
         if not self._log:
             raise Error(FAILED, "the log is closed")
-        count = _C.raftlog_cuts(self._log, None, 0)
+        count = _C.raftlog_cuts(self._log, None, 0, 0)
         found = (_Cut * count)()
-        _C.raftlog_cuts(self._log, found, count)
-        return [(os.fsdecode(cut.path), cut.offset, cut.len) for cut in found]
+        _C.raftlog_cuts(self._log, found, count, ctypes.sizeof(_Cut))
+        return [Cut(os.fsdecode(cut.path), cut.offset, cut.len, cut.stale) for cut in found]
 
     def expect_reads(self, at_random):
         """How entries will be read that are no longer in memory: in order, the default, with as much ahead as the disk's

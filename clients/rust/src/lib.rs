@@ -288,7 +288,7 @@ pub struct Stats {
 /// How many classes of times `Stats::sync_times` has.
 pub const SYNC_CLASSES: usize = sys::RAFTLOG_TIMES;
 
-/// What an opening cut off of a log file, behind the last record that could be read.
+/// What an opening cut off a log file, after the last record that can be read.
 #[derive(Clone, Debug, PartialEq, Eq)]
 #[non_exhaustive]
 pub struct Cut {
@@ -298,6 +298,8 @@ pub struct Cut {
     pub offset: u64,
     /// How many bytes are.
     pub len: u64,
+    /// Whether the first record in these bytes is an earlier file's, as usual after a kill if files are recycled.
+    pub stale: bool,
 }
 
 // Who is told how far an opening is. No panic goes through C: it goes on behind the opening.
@@ -473,14 +475,14 @@ impl Engine {
         })
     }
 
-    /// What the opening cut off, but for zeros.
+    /// What the opening cut off, except zeros.
     pub fn cuts(&self) -> Vec<Cut> {
-        let count = unsafe { sys::raftlog_cuts(self.log, ptr::null_mut(), 0) };
+        let count = unsafe { sys::raftlog_cuts(self.log, ptr::null_mut(), 0, 0) };
         let mut found = Vec::with_capacity(count);
-        unsafe { sys::raftlog_cuts(self.log, found.as_mut_ptr(), count) };
+        unsafe { sys::raftlog_cuts(self.log, found.as_mut_ptr(), count, size_of::<sys::raftlog_cut>()) };
         unsafe { found.set_len(count) };
         let path_of = |cut: &sys::raftlog_cut| OsStr::from_bytes(unsafe { CStr::from_ptr(cut.path) }.to_bytes()).into();
-        found.iter().map(|cut| Cut { path: path_of(cut), offset: cut.offset, len: cut.len }).collect()
+        found.iter().map(|cut| Cut { path: path_of(cut), offset: cut.offset, len: cut.len, stale: cut.stale }).collect()
     }
 
     /// How entries will be read that are no longer in memory: in order, the default, with as much ahead as the disk's

@@ -50,6 +50,7 @@ pub struct raftlog_cut {
     pub path: *const c_char,
     pub offset: u64,
     pub len: u64,
+    pub stale: bool,
 }
 
 pub type raftlog_progress = unsafe extern "C" fn(with: *mut c_void, done: u64, all: u64);
@@ -69,7 +70,7 @@ extern "C" {
     pub fn raftlog_open_memory(settings: *const c_char, out: *mut *mut raftlog, text: *mut c_char, room: usize) -> c_int;
     pub fn raftlog_close(log: *mut raftlog) -> c_int;
     pub fn raftlog_stats(log: *mut raftlog, counts: *mut raftlog_counts, size: usize) -> c_int;
-    pub fn raftlog_cuts(log: *mut raftlog, cuts: *mut raftlog_cut, room: usize) -> usize;
+    pub fn raftlog_cuts(log: *mut raftlog, cuts: *mut raftlog_cut, room: usize, size: usize) -> usize;
     pub fn raftlog_survive_bus_errors() -> c_int;
     pub fn raftlog_expect_reads(log: *mut raftlog, at_random: bool) -> c_int;
     pub fn raftlog_message(log: *mut raftlog, text: *mut c_char, room: usize) -> usize;

@@ -143,8 +143,7 @@ fn watched_opening() {
     std::fs::remove_dir_all(folder).unwrap();
 }
 
-/// A file that is cut behind an open log.
-// Four bytes behind the last record, which the next opening cuts off and tells.
+/// Four bytes after the last record, which the next opening cuts off and reports.
 #[test]
 fn cuts_that_are_told() {
     let folder = folder("cuts");
@@ -159,6 +158,32 @@ fn cuts_that_are_told() {
     std::fs::remove_dir_all(folder).unwrap();
 }
 
+/// A copy of an open log, whose last file was used before.
+#[test]
+fn cuts_that_are_stale() {
+    let (folder, copy) = (folder("used-again"), folder("used-again-copy"));
+    let settings = "target-file-size = \"4KB\"\nenable-log-recycle = true\nprefill-for-recycle = false";
+    let log = Engine::open(&folder, settings).unwrap();
+    let mut batch = LogBatch::new();
+    for i in 0..60 {
+        batch.put(1, b"key", &[0; 200]);
+        log.write(&mut batch, true).unwrap();
+        if i == 40 {
+            log.must_rewrite_append_queue().unwrap();
+        }
+    }
+    std::fs::create_dir(&copy).unwrap();
+    for file in std::fs::read_dir(&folder).unwrap() {
+        let file = file.unwrap();
+        std::fs::copy(file.path(), copy.join(file.file_name())).unwrap();
+    }
+    let cuts = Engine::open(&copy, "").unwrap().cuts();
+    assert_eq!(cuts.iter().map(|cut| cut.stale).collect::<Vec<_>>(), [true]);
+    std::fs::remove_dir_all(folder).unwrap();
+    std::fs::remove_dir_all(copy).unwrap();
+}
+
+/// A file that is cut behind an open log.
 #[test]
 fn bus_errors_that_are_survived() {
     raftlog::survive_bus_errors().unwrap();

@@ -6,13 +6,13 @@
 //	POST   /sessions?group=N   begins a session in a group
 //	GET    /status             tells how the node stands, as JSON
 //	GET    /metrics            tells what the node and its log count, for Prometheus
+//	GET    /                   a page that draws all nodes, by their /status
 //
 // A write with the headers Kv-Session and Kv-Number acts once, however often it is sent.
 package server
 
 import (
 	"context"
-	"encoding/json"
 	"errors"
 	"fmt"
 	"io"
@@ -40,10 +40,12 @@ const (
 	FoundHeader   = "Kv-Found"
 )
 
-// A Server answers by a node of so many groups, within a time. Log is nil for a store that isn't a raftlog.
+// A Server answers by a node of so many groups, within a time. Log is nil for a store that isn't a raftlog. Nodes are those
+// that the page at / draws.
 type Server struct {
 	Node    *node.Node
 	Log     Log
+	Nodes   []Address
 	Groups  uint64
 	Timeout time.Duration
 }
@@ -103,16 +105,25 @@ func (s *Server) serve(ctx context.Context, w http.ResponseWriter, r *http.Reque
 			return refuse(http.StatusMethodNotAllowed, "/sessions takes POST")
 		}
 		return s.begin(ctx, w, r)
-	case path == "/status" || path == "/metrics":
-		if r.Method != http.MethodGet {
-			return refuse(http.StatusMethodNotAllowed, "%s takes GET", path)
-		}
-		if path == "/metrics" {
-			return s.tellMetrics(ctx, w)
-		}
-		return s.tellStatus(ctx, w)
 	}
-	return refuse(http.StatusNotFound, "there are /keys/KEY, /sessions, /status and /metrics")
+	return s.serveReport(ctx, w, r)
+}
+
+// serveReport answers with what a node tells of itself.
+func (s *Server) serveReport(ctx context.Context, w http.ResponseWriter, r *http.Request) error {
+	path := r.URL.EscapedPath()
+	file, isPage := pageFiles[path]
+	switch {
+	case !isPage && path != "/status" && path != "/metrics":
+		return refuse(http.StatusNotFound, "there are /keys/KEY, /sessions, /status, /metrics and /")
+	case r.Method != http.MethodGet:
+		return refuse(http.StatusMethodNotAllowed, "%s takes GET", path)
+	case isPage:
+		return servePage(w, r, file)
+	case path == "/metrics":
+		return s.tellMetrics(ctx, w)
+	}
+	return s.tellStatus(ctx, w)
 }
 
 func keyOf(escaped string) (string, error) {
@@ -219,15 +230,4 @@ func (s *Server) begin(ctx context.Context, w http.ResponseWriter, r *http.Reque
 	}
 	_, err = fmt.Fprintln(w, result.Index)
 	return ignored(err)
-}
-
-func (s *Server) tellStatus(ctx context.Context, w http.ResponseWriter) error {
-	status, err := s.Node.Status(ctx)
-	if err != nil {
-		return err
-	}
-	w.Header().Set("Content-Type", "application/json")
-	encoder := json.NewEncoder(w)
-	encoder.SetIndent("", "  ")
-	return ignored(encoder.Encode(status))
 }

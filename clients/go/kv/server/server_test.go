@@ -38,7 +38,7 @@ func start(t *testing.T) *httptest.Server {
 	ended := make(chan error)
 	go func() { ended <- n.Run(ctx) }()
 	log, _ := store.(Log)
-	users := httptest.NewServer(&Server{Node: n, Log: log, Groups: groups, Timeout: 2 * time.Minute})
+	users := httptest.NewServer(&Server{Node: n, Log: log, Nodes: []Address{{1, "one:1"}}, Groups: groups, Timeout: 2 * time.Minute})
 	t.Cleanup(func() {
 		users.Close()
 		cancel()
