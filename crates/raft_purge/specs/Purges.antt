@@ -72,7 +72,7 @@ module _ {F : Type 0} (directory : F → Directory) (moments : F → List Direct
         (IsUnfitWhere (IsLogBy i d (directory old))))
 
 module _ {F H R W : Type 0} (fs : FsGhosts F H R W) where
-  -- the same of logs
+  -- Purges, of two logs
   abbrev pub PurgesBy : {X L : Type 0} → {g : Ghosts L} → LogQueue
       → (DualState → DualState → Directory → Refusals → Refusals → (Fault → Type 0) → StepFault
       → Type 0)
@@ -104,7 +104,7 @@ module _ {F H R W : Type 0} (fs : FsGhosts F H R W) where
     pub cut : OnOk result (AddsRest events events')
     pub holds : IfStands result (HoldsRest fs l')
 
-  -- such a purge: the Append queue's pipe is the same
+  -- a renewal: PurgesRewrite, and the Append queue's pipe is the same
   pub record Renews {L : Type 0} {g : Ghosts L} (result : Result ℕ StepFault) (l l' : Log F H R W)
       (events events' : PurgeEvents L g) : Type 0 where
     pub purges : PurgesRewrite result l l' events events'

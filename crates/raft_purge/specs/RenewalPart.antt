@@ -37,7 +37,7 @@ bound_new (Some files) groups = ids_bound files.groups.ids
 abbrev pub GoesOnWith : NewFiles → DualState → Tables → KnownGroups → Directory → Type 0
 GoesOnWith files d t met n = IsUnderWay files.first (ids_bound files.groups.ids) d t met n
 
--- .. if there are some
+-- GoesOnWith, if there are new files
 abbrev pub MayGoOnWith : Option NewFiles → DualState → Tables → KnownGroups → Directory → Type 0
 MayGoOnWith None d t met n = Unit {0}
 MayGoOnWith (Some files) d t met n = GoesOnWith files d t met n

@@ -1,4 +1,4 @@
-//! Of which groups the Rewrite queue is written anew, and to which files.
+//! The groups of one call of a renewal, and the files that they are written to.
 ghost use Rattle.std.specs.Prelude.{◌≡◌};
 ghost use Rattle.std.proofs.Props.{props};
 ghost use Rattle.std.specs.List.Sorted.{IsStrictlySortedBy};
@@ -7,16 +7,15 @@ ghost use Rattle.std.specs.Ordering.{nat_cmp};
 use raft_records::FileSeq;
 use raft_tables::GroupsMet;
 
-/// The new files of the Rewrite queue while it is written anew in several calls: the first of them, and
-/// what was known of the atomic groups before.
+/// A renewal in several calls: the first of its new files, and the atomic groups known before it.
 #[derive(Clone, Copy, Debug)]
 pub struct NewFiles {
     pub first: FileSeq,
     pub groups: GroupsMet,
 }
 
-/// Of which groups the Rewrite queue is written anew, in ascending order; the new files, where groups
-/// before these were written to them; and whether these are the last ones.
+/// One call of a renewal: its groups in ascending order, the new files if an earlier call began
+/// them, and whether these are the last groups.
 #[derive(Debug, Drop)]
 pub struct RenewalPart {
     pub groups: Vec<u64>,
@@ -28,8 +27,7 @@ pub struct RenewalPart {
 impl RenewalPart {
     ghost use Rattle.raft_purge.specs.RenewalPart.{files_behind};
 
-    /// The new files behind this part, which begins with these where there are none: none behind the
-    /// last groups.
+    /// The new files after this call; `next` if none were begun before. None after the last groups.
     pub fn files_behind(&self, next: NewFiles) -> Option<NewFiles>
         ensures value { result ≡ files_behind self.now next }
     {

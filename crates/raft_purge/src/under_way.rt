@@ -1,4 +1,4 @@
-//! A rewriting of the Rewrite queue that goes on in later calls.
+//! A renewal that later calls continue.
 ghost use Rattle.std.specs.Prelude.{◌≡◌, ◌≤◌, ℕ, List};
 ghost use Rattle.std.specs.List.{AllByRecursion as Each};
 ghost use Rattle.raft_base.specs.declared.pipe_log.LogQueue.TheVariants.{Append, Rewrite};
@@ -19,10 +19,11 @@ ghost use Rattle.raft_purge_steps.specs.Renewing.{GoesOnRenewal, renewed_log};
 ghost use Rattle.raft_purge_steps.specs.Steps.{IsLog, LogValue, log_of};
 ghost use Rattle.raft_purge.specs.UnderWay.{IsUnderWay, renewal_at};
 
-/// Between two calls of a rewriting of the Rewrite queue the log is a plain one, and pipes, tables and
-/// files tell that it may go on: then it is one that is being written anew (`goes`, `renewed`), which
-/// leaves it so again (`still`). A call that leaves the Rewrite queue as it was, and that places nothing
-/// there, keeps that (`beside`): so a write does, whose items the Append queue takes (`appended`).
+/// Between two calls of a renewal the log is a plain one. If pipes, tables and files say that the
+/// renewal may continue, the log is one of which the rest is rewritten (`goes`, `renewed`), and the
+/// next call leaves such a log again (`still`). A call that leaves the Rewrite queue as it was, and
+/// places nothing there, keeps that (`beside`). A write is such a call: the Append queue takes its
+/// items (`appended`).
 pub fn a_rewriting_goes_on_in_later_calls()
     ensures goes { (first bound : ℕ) (d : DualState) (t : Tables) (met : KnownGroups) (n : Directory)
         → IsUnderWay first bound d t met n → GoesOnRenewal met (renewal_at first bound met) }

@@ -22,7 +22,7 @@ pub record KeepsOwed {F H R W : Type 0} (l l' : Log F H R W) : Type 0 where
   pub owed : l'.owed ≡ l.owed
   pub cache : l'.cache ≡ l.cache
 
--- so they are, and so is what is known of atomic groups
+-- KeepsOwed, and the known atomic groups are as before
 pub record KeepsMarks {F H R W : Type 0} (l l' : Log F H R W) : Type 0 where
   pub owed : l'.owed ≡ l.owed
   pub cache : l'.cache ≡ l.cache

@@ -36,8 +36,8 @@ module _ {F H R W : Type 0} (fs : FsGhosts F H R W) where
   abbrev pub HoldsBlocks : LogStore F H R W → KeptBlocks → Type 0
   HoldsBlocks s kept = HoldsBlockIn s.pipes (files_of s) kept
 
-  -- at each moment between the two stores this holds of the files before and those then; no count
-  -- of failed calls fell
+  -- P holds at each moment of the call, of the files before it and those then; no count of failed
+  -- calls falls
   abbrev pub Moves : (Directory → Directory → Type 0) → LogStore F H R W → LogStore F H R W → Type 0
   Moves P s s' = MovesBy fs.directory fs.moments fs.refusals_of P s.file_system s'.file_system
 

@@ -1,4 +1,4 @@
-//! The steps of a purge: the syncs and rotations with which each begins, how a batch gets into the Rewrite queue, and why a step fails.
+//! The steps of a purge, and the log that they work on.
 #![tactic(auto)]
 
 mod fault;

@@ -53,7 +53,7 @@ pub record HasPurgedFront (m : MemTables) (owed' : Owed) (p p' : PipeState) : Ty
   pub owed : OwesNothing owed'
 
 module _ {F H R W : Type 0} (fs : FsGhosts F H R W) where
-  -- .. of synced queues: however that ends the pipes stand side by side
+  -- LosesFiles of synced queues; pipes and files match after an Err too
   pub record LosesSynced (queue : LogQueue) (Begins : PipeState → PipeState → Type 0)
       (result : Result ℕ Fault) (s s' : LogStore F H R W) : Type 0 where
     pub files : LosesFiles queue Begins result s.pipes s'.pipes
@@ -86,9 +86,8 @@ module _ {F H R W : Type 0} (fs : FsGhosts F H R W) where
     pub cause : IfErr result (IsPurgeRefusal s.pipes s'.pipes (files_of fs s')
         (refusals_in fs s) (refusals_in fs s') IsUnfit)
 
-  -- .. of the Append queue, behind a rotation, with all marks that are owed written; whichever of
-  -- these groups are known. However it ends, no file is dropped from the first one on in which
-  -- something stands
+  -- a purge of the Append queue after a rotation: all owed marks are written, and no needed file is
+  -- dropped, also after an Err
   pub record PurgesFront {X L : Type 0} {g : Ghosts L} (m : MemTables) (known : X → KnownGroups)
       (result : Result ℕ StepFault) (owed owed' : Owed) (s s' : LogStore F H R W)
       (events events' : PurgeEvents L g) : Type 0 where
