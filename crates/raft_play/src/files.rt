@@ -43,10 +43,10 @@ fn bytes_at<F: FileSystem>(alloc: Global, files: &mut F, path: &str) -> Result<V
 }
 
 // Adds a number to each byte of a file, as a file system does that hides what it stores.
-fn shift<F: FileSystem>(alloc: Global, files: &mut F, path: &str, by: u64) -> Result<(), FsFault> {
+fn shift<F: FileSystem>(alloc: Global, files: &mut F, path: &str, by: u8) -> Result<(), FsFault> {
     let mut bytes = bytes_at(alloc, files, path)?;
     for byte in bytes.iter_mut() {
-        *byte = byte.wrapping_add(by as u8);
+        *byte = byte.wrapping_add(by);
     }
     store(files, path, &bytes)
 }
@@ -67,14 +67,18 @@ pub(crate) fn mode_of(word: &str) -> Result<RecoveryMode, Unanswered> {
     }
 }
 
+fn byte(word: &str) -> Result<u8, Unanswered> {
+    match u8::try_from(number(word)?) {
+        Ok(byte) => Ok(byte),
+        Err(_) => Err(Unanswered::BadLine),
+    }
+}
+
 fn left_of(words: &[&str]) -> Result<Left, Unanswered> {
     match words {
         ["all"] => Ok(Left::All),
         ["synced"] => Ok(Left::Synced),
-        ["torn", kept, fill] => match u8::try_from(number(fill)?) {
-            Ok(fill) => Ok(Left::Torn(number(kept)? as usize, fill)),
-            Err(_) => Err(Unanswered::BadLine),
-        },
+        ["torn", kept, fill] => Ok(Left::Torn(number(kept)? as usize, byte(fill)?)),
         _ => Err(Unanswered::BadLine),
     }
 }
@@ -149,10 +153,9 @@ fn answer_changed<F: FileSystem>(
     let [path, count] = words else {
         return Err(Unanswered::BadLine);
     };
-    let count = number(count)?;
     match verb {
-        "shift" => shift(alloc, files, path, count)?,
-        _ => cut(files, path, count)?,
+        "shift" => shift(alloc, files, path, byte(count)?)?,
+        _ => cut(files, path, number(count)?)?,
     }
     Ok(Answer::Done)
 }
