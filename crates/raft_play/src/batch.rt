@@ -17,7 +17,7 @@ pub(crate) struct Writing {
 }
 
 /// Entries with the indexes from the first to the last.
-fn text_entries(
+pub(crate) fn text_entries(
     alloc: Global,
     first: u64,
     last: u64,

@@ -1,6 +1,7 @@
 //! Lines that write to an engine, purge it, or ask it what an operation does.
 
 use crate::answer::Unanswered;
+use crate::appends::Appends;
 use crate::batch::{Writing, add_raw};
 use crate::words::{Names, bound, bytes_of, number, one, two};
 use raft_env::FileSystem;
@@ -18,6 +19,7 @@ pub(crate) enum Call {
     WriteGroup,
     /// An entry with these bytes for each of some groups and indexes, in a batch of its own.
     WriteEach((u64, u64), (u64, u64), Vec<u8>),
+    Append(Appends),
     /// Of the Append queue's files up to one, what the groups from one on have there, within a budget.
     RewriteGroups(FileSeq, u64, u64),
     RenewGroups(u64, u64),
@@ -130,6 +132,7 @@ pub(crate) fn call_of(alloc: Global, names: &Names, words: &[&str]) -> Result<Ca
         "write-group" if rest.is_empty() => Ok(Call::WriteGroup),
         "once" => once_of(alloc, rest),
         "each" => each_of(alloc, names, rest),
+        "append" => Ok(Call::Append(Appends::read(alloc, names, rest)?)),
         "rewrite" => rewrite_of(rest),
         "get" => Ok(Call::Op(get_of(alloc, names, rest)?)),
         _ => Ok(Call::Op(op_of(verb, rest)?)),
@@ -190,6 +193,7 @@ pub(crate) fn outcome_of<F: FileSystem>(
         Call::WriteEach(groups, indexes, bytes) => {
             Outcome::Done(write_each(alloc, engine, *groups, *indexes, bytes))
         }
+        Call::Append(appends) => Outcome::Done(appends.write(alloc, engine)),
         Call::RewriteGroups(file, from, budget) => {
             goes_on(engine.must_rewrite_append_groups(*file, *from, *budget))
         }

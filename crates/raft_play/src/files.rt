@@ -32,16 +32,30 @@ fn read<F: FileSystem>(
     read
 }
 
-fn has<F: FileSystem>(
-    alloc: Global,
-    files: &mut F,
-    path: &str,
-    wanted: &[u8],
-) -> Result<bool, FsFault> {
+// The bytes of a file.
+fn bytes_at<F: FileSystem>(alloc: Global, files: &mut F, path: &str) -> Result<Vec<u8>, FsFault> {
     let handle = files.open(path, Permission::ReadOnly)?;
     let size = files.file_size(&handle)?;
     let mut bytes = vec![in alloc; 0; size]?;
-    Ok(read(files, &handle, &mut bytes)? == size && bytes.as_slice() == wanted)
+    let len = read(files, &handle, &mut bytes)?;
+    bytes.truncate(len);
+    Ok(bytes)
+}
+
+// Adds a number to each byte of a file, as a file system does that hides what it stores.
+fn shift<F: FileSystem>(alloc: Global, files: &mut F, path: &str, by: u8) -> Result<(), FsFault> {
+    let mut bytes = bytes_at(alloc, files, path)?;
+    for byte in bytes.iter_mut() {
+        *byte = byte.wrapping_add(by);
+    }
+    store(files, path, &bytes)
+}
+
+// Leaves the first bytes of a file.
+fn cut<F: FileSystem>(files: &mut F, path: &str, len: u64) -> Result<(), FsFault> {
+    let handle = files.open(path, Permission::ReadWrite)?;
+    let mut writer = files.new_writer(&handle)?;
+    files.truncate(&mut writer, len as usize)
 }
 
 pub(crate) fn mode_of(word: &str) -> Result<RecoveryMode, Unanswered> {
@@ -53,14 +67,18 @@ pub(crate) fn mode_of(word: &str) -> Result<RecoveryMode, Unanswered> {
     }
 }
 
+fn byte(word: &str) -> Result<u8, Unanswered> {
+    match u8::try_from(number(word)?) {
+        Ok(byte) => Ok(byte),
+        Err(_) => Err(Unanswered::BadLine),
+    }
+}
+
 fn left_of(words: &[&str]) -> Result<Left, Unanswered> {
     match words {
         ["all"] => Ok(Left::All),
         ["synced"] => Ok(Left::Synced),
-        ["torn", kept, fill] => match u8::try_from(number(fill)?) {
-            Ok(fill) => Ok(Left::Torn(number(kept)? as usize, fill)),
-            Err(_) => Err(Unanswered::BadLine),
-        },
+        ["torn", kept, fill] => Ok(Left::Torn(number(kept)? as usize, byte(fill)?)),
         _ => Err(Unanswered::BadLine),
     }
 }
@@ -121,7 +139,25 @@ fn answer_has<F: FileSystem>(
         return Err(Unanswered::BadLine);
     };
     let wanted = bytes_of(alloc, names, bytes)?;
-    Ok(Answer::Is(has(alloc, files, path, &wanted)?))
+    let found = bytes_at(alloc, files, path)?;
+    Ok(Answer::Is(found.as_slice() == wanted.as_slice()))
+}
+
+// What a line with a path and a number does to the file.
+fn answer_changed<F: FileSystem>(
+    alloc: Global,
+    files: &mut F,
+    verb: &str,
+    words: &[&str],
+) -> Result<Answer, Unanswered> {
+    let [path, count] = words else {
+        return Err(Unanswered::BadLine);
+    };
+    match verb {
+        "shift" => shift(alloc, files, path, byte(count)?)?,
+        _ => cut(files, path, number(count)?)?,
+    }
+    Ok(Answer::Done)
 }
 
 fn answer_free<F: Faulty>(files: &mut F, words: &[&str]) -> Result<Answer, Unanswered> {
@@ -182,7 +218,7 @@ fn answer_at<F: Faulty>(
     match verb {
         "fork" => forked(alloc, config, files, word),
         "agree" => agree(alloc, files, word),
-        "items" => items_at(alloc, files, word),
+        "items" | "file-items" | "folder-items" | "places" => items_at(alloc, files, verb, word),
         _ => look_at(files, verb, word),
     }
 }
@@ -201,6 +237,7 @@ pub(crate) fn answer<F: Faulty>(
     match *verb {
         "store" => answer_store(alloc, names, files, rest),
         "has" => answer_has(alloc, names, files, rest),
+        "shift" | "cut" => answer_changed(alloc, files, verb, rest),
         "free" => answer_free(files, rest),
         "crash" => answer_crash(alloc, files, rest),
         _ => answer_at(alloc, config, files, verb, rest),

@@ -1,6 +1,7 @@
 //! Lines that ask an engine for what it holds.
 
 use crate::answer::{Answer, Unanswered};
+use crate::appends::whole;
 use crate::plain::Plain;
 use crate::words::{Names, Spelled, bound, bytes_of, number, one, two};
 use raft_env::FileSystem;
@@ -89,25 +90,31 @@ fn scanned<F: FileSystem>(
     handed.answer()
 }
 
-// The keys of a group with the words of their messages.
+// The keys of a group with the words of their messages, in order or backwards, until there are so many.
 fn messages<F: FileSystem>(
     alloc: Global,
     engine: &Engine<F>,
-    group: u64,
+    words: &[&str],
 ) -> Result<Answer, Unanswered> {
-    let mut handed = Handed::new(alloc, u64::MAX)?;
+    let (group, reverse, most) = match words {
+        [group] => (number(group)?, false, u64::MAX),
+        [group, "most", most] => (number(group)?, false, number(most)?),
+        [group, "back", "most", most] => (number(group)?, true, number(most)?),
+        _ => return Err(Unanswered::BadLine),
+    };
+    let mut handed = Handed::new(alloc, most)?;
     engine.scan_messages::<TextEntry, _>(
         group,
         None,
         None,
-        false,
+        reverse,
         &mut |key: &[u8], entry: TextEntry| handed.takes(key, &entry.word),
     )?;
     handed.answer()
 }
 
-// Whether the bytes that an engine lends of an entry are those of the one that it copied.
-fn lends<F: FileSystem>(
+/// Whether the bytes that an engine lends of an entry are those of the one that it copied.
+pub(crate) fn lends<F: FileSystem>(
     alloc: Global,
     engine: &mut Engine<F>,
     group: u64,
@@ -272,7 +279,8 @@ pub(crate) fn answer<F: FileSystem>(
         "span" => span_of(engine, rest),
         "fetch" => fetched(alloc, engine, rest),
         "scan" => scanned(alloc, names, engine, rest),
-        "messages" => messages(alloc, engine, one(rest)?),
+        "messages" => messages(alloc, engine, rest),
+        "whole" => whole(alloc, engine, one(rest)?),
         _ => answer_whole(alloc, engine, words),
     }
 }

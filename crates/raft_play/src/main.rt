@@ -3,6 +3,7 @@
 #![tactic(auto)]
 
 mod answer;
+mod appends;
 mod batch;
 mod calls;
 mod check;

@@ -60,7 +60,7 @@ const BATCH_LINES: [&str; 12] = [
     "drop",
 ];
 
-const FILE_LINES: [&str; 14] = [
+const FILE_LINES: [&str; 19] = [
     "folder",
     "store",
     "note",
@@ -75,15 +75,21 @@ const FILE_LINES: [&str; 14] = [
     "fork",
     "agree",
     "items",
+    "file-items",
+    "folder-items",
+    "places",
+    "shift",
+    "cut",
 ];
 
 const PROGRAM_LINES: [&str; 3] = ["<", "read", "serve"];
 
-const CALL_LINES: [&str; 12] = [
+const CALL_LINES: [&str; 13] = [
     "write",
     "once",
     "write-group",
     "each",
+    "append",
     "sync",
     "get",
     "compact-to",

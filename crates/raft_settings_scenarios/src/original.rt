@@ -64,6 +64,11 @@ fn is_custom(config: &Config) -> bool {
         && !config.prefill_for_recycle
 }
 
+// Whether these are still the values of the text, which are below the least ones.
+fn is_too_low(config: &Config) -> bool {
+    config.recovery_read_block_size.0 < 512 && config.recovery_threads < 1
+}
+
 fn is_raised(config: &Config) -> bool {
     config.recovery_read_block_size.0 >= 512
         && config.recovery_threads >= 1
@@ -100,6 +105,7 @@ fn test_invalid(rt: HostRuntime) {
             "enable-log-recycle = false\nprefill-for-recycle = true\nformat-version = 2\n"
         )
     );
+    assert!(rt; read(alloc, SOFT).is_some_and(|config| is_too_low(&config)));
     let config = sanitized(alloc, SOFT);
     assert!(rt; config.as_ref().is_some_and(is_raised), "{config:?}");
 }

@@ -8,79 +8,88 @@ use raft_settings::write;
 use std::alloc::Global;
 use std::test::Fail;
 
-/// The lines of a table, and a line of the text that is then written for the settings.
+/// The lines of a table, and a whole line of the text that is then written for the settings.
 struct Accepted(&'static str, &'static str);
 
 static ACCEPTED: [Accepted; 29] = [
-    Accepted("", "target-file-size = \"128MB\"\n"),
-    Accepted("", "recovery-mode = \"tolerate-corrupted-tail-records\"\n"),
-    Accepted("dir = \"a/b c\"", "dir = \"a/b c\"\n"),
-    Accepted("spill-dir = \"spill\"", "spill-dir = \"spill\"\n"),
+    Accepted("", "target-file-size = \"128MB\""),
+    Accepted("", "recovery-mode = \"tolerate-corrupted-tail-records\""),
+    Accepted("dir = \"a/b c\"", "dir = \"a/b c\""),
+    Accepted("spill-dir = \"spill\"", "spill-dir = \"spill\""),
     Accepted(
         "recovery-mode = \"absolute-consistency\"",
-        "recovery-mode = \"absolute-consistency\"\n",
+        "recovery-mode = \"absolute-consistency\"",
     ),
     Accepted(
         "recovery-mode = \"tolerate-tail-corruption\"",
-        "recovery-mode = \"tolerate-corrupted-tail-records\"\n",
+        "recovery-mode = \"tolerate-corrupted-tail-records\"",
     ),
     Accepted(
         "recovery-mode = \"tolerate-corrupted-tail-records\"",
-        "recovery-mode = \"tolerate-corrupted-tail-records\"\n",
+        "recovery-mode = \"tolerate-corrupted-tail-records\"",
     ),
     Accepted(
         "recovery-mode = \"tolerate-any-corruption\"",
-        "recovery-mode = \"tolerate-any-corruption\"\n",
+        "recovery-mode = \"tolerate-any-corruption\"",
     ),
     Accepted(
         "recovery-read-block-size = \"1MB\"",
-        "recovery-read-block-size = \"1MB\"\n",
+        "recovery-read-block-size = \"1MB\"",
     ),
     Accepted(
         "recovery-read-block-size = 512",
-        "recovery-read-block-size = \"512B\"\n",
+        "recovery-read-block-size = \"512B\"",
     ),
-    Accepted("recovery-threads = 0", "recovery-threads = 0\n"),
-    Accepted("recovery-threads = 16", "recovery-threads = 16\n"),
-    Accepted("bytes-per-sync = \"4MB\"", "bytes-per-sync = \"4MB\"\n"),
-    Accepted("bytes-per-sync = 4096", "bytes-per-sync = \"4KB\"\n"),
-    Accepted("format-version = 1", "format-version = 1\n"),
-    Accepted("format-version = 2", "format-version = 2\n"),
+    Accepted("recovery-threads = 0", "recovery-threads = 0"),
+    Accepted("recovery-threads = 16", "recovery-threads = 16"),
+    Accepted("bytes-per-sync = \"4MB\"", "bytes-per-sync = \"4MB\""),
+    Accepted("bytes-per-sync = 4096", "bytes-per-sync = \"4KB\""),
+    Accepted("format-version = 1", "format-version = 1"),
+    Accepted("format-version = 2", "format-version = 2"),
     Accepted(
         "target-file-size = 134217729",
-        "target-file-size = \"134217729B\"\n",
+        "target-file-size = \"134217729B\"",
     ),
-    Accepted("target-file-size = \"2GB\"", "target-file-size = \"2GB\"\n"),
-    Accepted("target-file-size = \"0\"", "target-file-size = \"0B\"\n"),
+    Accepted("target-file-size = \"2GB\"", "target-file-size = \"2GB\""),
+    Accepted("target-file-size = \"0\"", "target-file-size = \"0B\""),
     Accepted(
         "purge-threshold = \"10240KB\"",
-        "purge-threshold = \"10MB\"\n",
+        "purge-threshold = \"10MB\"",
     ),
     Accepted(
         "purge-threshold = \"18446744073709551615\"",
-        "purge-threshold = \"18446744073709551615B\"\n",
+        "purge-threshold = \"18446744073709551615B\"",
     ),
     Accepted(
         "purge-rewrite-threshold = \"1GB\"",
-        "purge-rewrite-threshold = \"1GB\"\n",
+        "purge-rewrite-threshold = \"1GB\"",
     ),
     Accepted(
         "purge-rewrite-garbage-ratio = 250",
-        "purge-rewrite-garbage-ratio = 250\n",
+        "purge-rewrite-garbage-ratio = 250",
     ),
-    Accepted("memory-limit = 1073741824", "memory-limit = \"1GB\"\n"),
-    Accepted("enable-log-recycle = false", "enable-log-recycle = false\n"),
-    Accepted("prefill-for-recycle = true", "prefill-for-recycle = true\n"),
-    Accepted("prefill-limit = \"12GB\"", "prefill-limit = \"12GB\"\n"),
+    Accepted("memory-limit = 1073741824", "memory-limit = \"1GB\""),
+    Accepted("enable-log-recycle = false", "enable-log-recycle = false"),
+    Accepted("prefill-for-recycle = true", "prefill-for-recycle = true"),
+    Accepted("prefill-limit = \"12GB\"", "prefill-limit = \"12GB\""),
     Accepted(
         "batch-compression-threshold = \"8KB\"\ndir = \"a\"\ncompression-level = 0.5",
-        "dir = \"a\"\n",
+        "dir = \"a\"",
     ),
     Accepted(
         "dir = \"a\"\nrecovery-threads = 7\n[raft-engine.other]\ndir = \"b\"",
-        "recovery-threads = 7\n",
+        "recovery-threads = 7",
     ),
 ];
+
+fn has_line(text: &str, line: &str) -> bool {
+    for found in text.lines() {
+        if found == line {
+            return true;
+        }
+    }
+    false
+}
 
 impl Row for Accepted {
     type State = ();
@@ -89,7 +98,7 @@ impl Row for Accepted {
         let document = document_of(alloc, self.0)?;
         let read = by_table(alloc, document.as_str())?;
         let written = write(alloc, &read)?;
-        Ok(by_serde(alloc, document.as_str()) == Some(read) && written.contains(self.1))
+        Ok(by_serde(alloc, document.as_str()) == Some(read) && has_line(written.as_str(), self.1))
     }
 }
 
@@ -101,7 +110,7 @@ fn both_read_the_same_settings(rt: HostRuntime) -> Result<(), Fail> {
 /// The lines of a table that both refuse, and why `raft_settings` does.
 struct Refused(&'static str, &'static str);
 
-static REFUSED: [Refused; 19] = [
+static REFUSED: [Refused; 24] = [
     Refused("dir", "the settings are not valid TOML"),
     Refused(
         "dir = \"a\"\ndir = \"a\"",
@@ -133,6 +142,17 @@ static REFUSED: [Refused; 19] = [
     ),
     Refused("enable-log-recycle = 1", "enable-log-recycle"),
     Refused("prefill-limit = \"\"", "prefill-limit"),
+    Refused(
+        "recovery-read-block-size = \"16K\"",
+        "recovery-read-block-size",
+    ),
+    Refused("bytes-per-sync = true", "bytes-per-sync"),
+    Refused(
+        "purge-rewrite-threshold = \"1TB\"",
+        "purge-rewrite-threshold",
+    ),
+    Refused("memory-limit = -1", "memory-limit"),
+    Refused("prefill-for-recycle = \"true\"", "prefill-for-recycle"),
 ];
 
 impl Row for Refused {
@@ -153,25 +173,54 @@ fn both_refuse_the_same_settings(rt: HostRuntime) -> Result<(), Fail> {
     rows_hold(rt.alloc(), &mut (), &REFUSED)
 }
 
-/// The lines of a table that `serde` accepts and `raft_settings` refuses, and why the latter does:
-/// a mode as a table whose key is its name, which is another form of an enum in `serde`.
-struct Different(&'static str, &'static str);
+/// A document of which only `serde` reads settings, why `raft_settings` refuses it, and a whole
+/// line of the text that is then written for the settings.
+struct Different(&'static str, &'static str, &'static str);
 
-static DIFFERENT: [Different; 1] = [Different(
-    "recovery-mode = { tolerate-any-corruption = {} }",
-    "recovery-mode",
-)];
+static DIFFERENT: [Different; 5] = [
+    // A mode as a table whose key is its name.
+    Different(
+        "name = \"store\"\n[raft-engine]\nrecovery-mode = { tolerate-any-corruption = {} }",
+        "recovery-mode",
+        "recovery-mode = \"tolerate-any-corruption\"",
+    ),
+    // A date, which is read as a text.
+    Different(
+        "name = \"store\"\n[raft-engine]\ndir = 1979-05-27",
+        "dir",
+        "dir = \"1979-05-27\"",
+    ),
+    Different(
+        "name = \"store\"\n[raft-engine]\nspill-dir = 1979-05-27",
+        "spill-dir",
+        "spill-dir = \"1979-05-27\"",
+    ),
+    // An array of the first values of the struct; the others are the default ones.
+    Different(
+        "name = \"store\"\nraft-engine = []",
+        "raft-engine",
+        "target-file-size = \"128MB\"",
+    ),
+    Different(
+        "name = \"store\"\nraft-engine = [\"a\", \"b\"]",
+        "raft-engine",
+        "spill-dir = \"b\"",
+    ),
+];
 
 impl Row for Different {
     type State = ();
 
     fn holds(&self, alloc: Global, _: &mut ()) -> Result<bool, Fault> {
-        let document = document_of(alloc, self.0)?;
-        let is_refused = match by_table(alloc, document.as_str()) {
+        let is_refused = match by_table(alloc, self.0) {
             Err(Fault::InvalidArgument(reason)) => reason == self.1,
             _ => false,
         };
-        Ok(is_refused && by_serde(alloc, document.as_str()).is_some())
+        let Some(config) = by_serde(alloc, self.0) else {
+            return Ok(false);
+        };
+        let written = write(alloc, &config)?;
+        Ok(is_refused && has_line(written.as_str(), self.2))
     }
 }
 
