@@ -25,7 +25,7 @@ pub mod consistency {
 /// What log files hold, item by item.
 pub mod debug {
     pub use raft_dump::{
-        LogItemReader, build_file_reader, build_file_writer, dump_with_file_system,
+        LogItemReader, build_file_reader, build_file_writer, dump, dump_with_file_system,
     };
     pub use raft_records::{KeyValue, LogItem, LogItemContent};
 }
