@@ -436,3 +436,24 @@ pub extern "C" fn raft_c_numbers(
     (*first, *second) = log.numbers();
     *handle = Handle::of_box(log);
 }
+
+/// How many bytes of memory the index has reserved, how many reads of an entry found its block
+/// kept, and how many had to read it. All are 0 in a log that isn't open.
+#[unsafe(no_mangle)]
+pub extern "C" fn raft_c_counts(
+    alloc: Global,
+    handle: &mut Handle,
+    index_bytes: &mut u64,
+    hits: &mut u64,
+    misses: &mut u64,
+)
+    requires { IsSome handle.old.value }
+    ensures some { handle.new.value ≡ handle.old.value }
+{
+    let log = std::mem::replace(handle, Handle::none()).into_box(alloc);
+    let (bytes, blocks) = log.counts();
+    *index_bytes = bytes;
+    *hits = blocks.hits;
+    *misses = blocks.misses;
+    *handle = Handle::of_box(log);
+}

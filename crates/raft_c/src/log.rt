@@ -7,7 +7,7 @@ ghost use Rattle.raft_memory.specs.Settled.{settled_files};
 ghost use Rattle.raft_c.specs.Logs.{GivesOrders, HasAdded, HasBegun, IsChange, IsClose, IsOpening, IsOpeningOver, IsRead, IsSettled};
 
 use crate::loading::{Found, Loading};
-use raft_c_log::{Answer, Change, OpenLog, Query};
+use raft_c_log::{Answer, CacheCounts, Change, OpenLog, Query};
 use raft_log_engine::Fault;
 use raft_orders::{OrderedFileSystem, ordered_files};
 use std::alloc::Global;
@@ -216,6 +216,17 @@ impl Log {
         let count = bytes.len().min(out.len());
         out[..count].copy_from_slice(&bytes[..count]);
         bytes.len() as u64
+    }
+
+    /// How many bytes of memory the index has reserved, with the counts of the kept blocks. All are
+    /// 0 if the log isn't open.
+    pub(crate) fn counts(&self) -> (u64, CacheCounts) {
+        match &self.state {
+            State::Open(log) => (log.index_memory(), log.cache_counts()),
+            State::Loading(_) | State::Closed(_) | State::Ended => {
+                (0, CacheCounts { hits: 0, misses: 0 })
+            }
+        }
     }
 
     /// The numbers of the last call's result.

@@ -14,3 +14,4 @@ pub use answer::Answer;
 pub use calls::{Change, Fetch, Query, Scan};
 pub use open_log::OpenLog;
 pub use opening::Unopened;
+pub use raft_log_engine::CacheCounts;

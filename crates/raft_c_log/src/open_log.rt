@@ -10,7 +10,7 @@ use crate::numbers::pairs_in;
 use crate::opening::{Unopened, engine_over};
 use crate::scan::pairs_of;
 use raft_c_batch::{BatchFault, Entry, add_items, push_entries, push_numbers};
-use raft_log_engine::{Engine, Fault, FileSystem, LogBatch};
+use raft_log_engine::{CacheCounts, Engine, Fault, FileSystem, LogBatch};
 use std::alloc::Global;
 
 /// The code for a requested item that does not exist.
@@ -105,6 +105,16 @@ impl<F: FileSystem> OpenLog<F> {
             Ok(false) => ABSENT,
             Err(fault) => answer.keep(&fault),
         }
+    }
+
+    /// How many bytes of memory the engine's index has reserved. Takes one step for each group.
+    pub fn index_memory(&self) -> u64 {
+        self.engine.index_memory()
+    }
+
+    /// How many reads of an entry found its block kept, and how many had to read it.
+    pub fn cache_counts(&self) -> CacheCounts {
+        self.engine.cache_counts()
     }
 
     // Carries a change out.

@@ -64,8 +64,8 @@ pub use env::{DiskFileSystem, FileSystem, MemoryFileSystem};
 pub use losses::Losses;
 pub use raft_fork::{CopyDetails, fork};
 pub use raft_log_engine::{
-    Engine, Event, EventListener, EventSink, FileKeeper, FileSpans, GroupImage, Image, Listeners,
-    NoListeners, PurgeHook, Refused,
+    CacheCounts, Engine, Event, EventListener, EventSink, FileKeeper, FileSpans, GroupImage, Image,
+    Listeners, NoListeners, PurgeHook, Refused,
 };
 pub use raft_records::{
     Command, EntryIndex, EntryPlace, Factory, Fault, FileBlockHandle, FileId, FileSeq, Fresh,

@@ -17,9 +17,9 @@ use Rattle.raft_log_engine.specs.Engine.{queue_of, rewrite_queue_of}
 use Rattle.raft_log_engine.specs.Purge.{LeavesNewFiles}
 use Rattle.raft_log_engine.specs.declared.engine.Engine.{Engine}
 
--- of the groups from this one on and before the next one, which is a known one, nothing stands in the
--- Append queue's files up to the watermark that may move. All others keep their places, and so does
--- what stands behind it
+-- of the groups from this one on and before the next one, which is a known one, nothing stands in
+-- the Append queue's files up to the watermark that may move. All others keep their places, and so
+-- does what stands behind it
 pub record HasRewrittenFrom (watermark from : ℕ) (next : Option ℕ) (t t' : Tables) : Type 0 where
   pub emptied : (group : ℕ) → (nat_le from group && comes_before next group) ≡ true
       → HasNoneToMove (Some watermark) (or_empty (t' group))

@@ -28,8 +28,9 @@ module _ {F H R W : Type 0} {g : Ghosts F H R W} where
   abbrev pub WasNeverAsked : Engine F H R W g → Type 0
   WasNeverAsked e = (group : ℕ) → rounds_of e.rounds group ≡ 0
 
-  -- about each group this is decided by the rules; those that are asked for are answered, and counted
-  -- where the Append queue is rewritten, of which these are. No file from the barrier on is dropped
+  -- about each group this is decided by the rules; those that are asked for are answered, and
+  -- counted where the Append queue is rewritten, of which these are. No file from the barrier on is
+  -- dropped
   pub record HasPurgedExpired (barrier : ℕ) (e e' : Engine F H R W g) (asked : List ℕ) : Type 0 where
     pub decisions : List Decision
     pub decided : AreDecisions (needs_of e) e.rounds (tables_of e.log.tables) decisions
@@ -54,8 +55,8 @@ module _ {F H R W : Type 0} {g : Ghosts F H R W} where
         ≡ rounds_after (needs_of e).append
         (list_any (λ one. one == group) (groups_by Heavy decisions)) (rounds_of e.rounds group)
 
-  -- where the Append queue is to be rewritten each listener and the hook is asked once, and this is the
-  -- least of the files that they keep and the active one
+  -- where the Append queue is to be rewritten each listener and the hook is asked once, and this is
+  -- the least of the files that they keep and the active one
   pub record AsksBarrier (e : Engine F H R W g) (barrier : ℕ) (old new : Heard) : Type 0 where
     pub asked :
         has_failed e ≡ false → needs_rewrite Append (settings_of e) (use_of Append e) (rewritten_of e) ≡ true

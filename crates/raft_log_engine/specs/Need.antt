@@ -35,8 +35,8 @@ module _ {F H R W : Type 0} {g : Ghosts F H R W} where
   rewritten_of e =
       record { rewritten = rewritten_count e.log.stats; deleted = deleted_count e.log.stats }
 
-  -- up to which file of the Append queue a purge by watermarks rewrites, and before which one a group is
-  -- old, where that is due
+  -- up to which file of the Append queue a purge by watermarks rewrites, and before which one a
+  -- group is old, where that is due
   abbrev pub append_watermarks : Engine F H R W g → Option Watermarks
   append_watermarks e =
       let first = (queue_of e).first in

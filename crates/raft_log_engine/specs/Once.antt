@@ -15,8 +15,8 @@ use Rattle.raft_log_engine.specs.Durability.{StaysFailed, accepted_by, covered_b
 use Rattle.raft_log_engine.specs.Engine.{contents_of, has_failed}
 use Rattle.raft_log_engine.specs.declared.engine.Engine.{Engine}
 
--- why a caller's batch that changes a group's number isn't taken: for that, unless an item before it
--- doesn't fit
+-- why a caller's batch that changes a group's number isn't taken: for that, unless an item before
+-- it doesn't fit
 abbrev pub IsNumberRefusal : Contents → Batch → Fault → Type 0
 IsNumberRefusal m items (fault.InvalidArgument text) = meets_number m items ≡ true
 IsNumberRefusal m items e = (meets_number m items ≡ false) × (batch_refusal m items ≡ Some e)

@@ -61,13 +61,15 @@ rests_of (RenewGroups x) = 1
 rests_of DropStale = 0
 rests_of (DropExpired x) = 2
 
--- where the batches of each atomic group stand together, none of the queue's files is left, else all are
+-- where the batches of each atomic group stand together, none of the queue's files is left, else
+-- all are
 pub record HasRenewed (together : Bool) (p p' : PipeState) : Type 0 where
   pub gone : together ≡ true → p'.first ≡ suc (last_seq p)
   pub kept : together ≡ false → p'.first ≡ p.first
 
--- each queue went on to a next file. The Append queue begins with the first file in which one of the
--- tables' entries or values stands, or its last, and the Rewrite queue lost its old files or none
+-- each queue went on to a next file. The Append queue begins with the first file in which one of
+-- the tables' entries or values stands, or its last, and the Rewrite queue lost its old files or
+-- none
 pub record HasDroppedStale (together : Bool) (m : MemTables) (append rewrite append' rewrite' : PipeState)
     : Type 0 where
   pub last : last_seq append' ≡ suc (last_seq append)
@@ -75,8 +77,9 @@ pub record HasDroppedStale (together : Bool) (m : MemTables) (append rewrite app
       ≡ max append.first (first_of_tables Append (suc (last_seq append)) m)
   pub old : HasDroppedOld together m rewrite rewrite'
 
--- of these groups, and of those of which nothing stood there, nothing stands in the Rewrite queue's files
--- before the first new one; behind the last ones the old files go, if they may, and none before
+-- of these groups, and of those of which nothing stood there, nothing stands in the Rewrite queue's
+-- files before the first new one; behind the last ones the old files go, if they may, and none
+-- before
 pub record HasRenewedGroups (x : RenewalPart) (together : Bool) (m m' : MemTables) (p p' : PipeState)
     : Type 0 where
   pub emptied : AreRenewed (first_new x.files p) x (tables_of m) (tables_of m')
@@ -125,8 +128,8 @@ abbrev pub IsIdlePurge : Purge → Type 0
 IsIdlePurge (DropExpired x) = IsIdle x
 IsIdlePurge _ = ⊥
 
--- what stands behind the watermark of a rewriting of the Append queue isn't moved, and by one of the
--- Rewrite queue nothing that stands in the Append queue
+-- what stands behind the watermark of a rewriting of the Append queue isn't moved, and by one of
+-- the Rewrite queue nothing that stands in the Append queue
 abbrev pub LeavesBehind : Purge → PipeState → Tables → Tables → Type 0
 LeavesBehind (RewriteAppend scope) append t t' =
     MovesOnly (Some (watermark_in scope (last_seq append))) t t'
@@ -194,10 +197,10 @@ IsRunRefusal _ groups d d' n' old new U f = IsPurgeRefusal d d' n' old new U f
 abbrev pub IsFailureCause : Type 0 → DualState → Directory → Refusals → Refusals → Fault → Type 0
 IsFailureCause ends_open d n old new e = ends_open ⊎ IsByChange d n old new e
 
--- why a purge of a log with these contents fails, in these folders: by a call on its files or for lack
--- of memory; where no number is left for a next log file of a queue, or what is to be written again has
--- no record, or it can't be marked, which fails no engine unless it leaves an atomic group open; and for
--- want of space, which fails one and is to be tried again
+-- why a purge of a log with these contents fails, in these folders: by a call on its files or for
+-- lack of memory; where no number is left for a next log file of a queue, or what is to be written
+-- again has no record, or it can't be marked, which fails no engine unless it leaves an atomic
+-- group open; and for want of space, which fails one and is to be tried again
 abbrev pub IsPurgeFault : Contents → PipeState → PipeState → Type 0 → Type 0 → Folders → Bool
     → Refusals → Refusals → Fault → Type 0
 IsPurgeFault x append rewrite ends_open unmarked folders fails old new fault.Range =
@@ -210,8 +213,8 @@ IsPurgeFault x append rewrite ends_open unmarked folders fails old new fault.Try
 IsPurgeFault x append rewrite ends_open unmarked folders fails old new e =
     FailsAt (NamesLog folders) old new e
 
--- what a purge leaves of both queues' files, and what it moves and counts. What is refused has lost those
--- files at most
+-- what a purge leaves of both queues' files, and what it moves and counts. What is refused has lost
+-- those files at most
 pub record Frees {E : Type 0} (purge : Purge) (result : Result ℕ E) (m m' : MemTables)
     (stats stats' : GlobalStats) (groups groups' : GroupsMet) (d d' : DualState) : Type 0 where
   pub files : OnOk result
@@ -222,7 +225,8 @@ pub record Frees {E : Type 0} (purge : Purge) (result : Result ℕ E) (m m' : Me
   pub apart : OnOk result (KeepsOtherGroups purge (tables_of m) (tables_of m'))
   pub idle : OnOk result
       (IsIdlePurge purge → (d' ≡ d) × (m' ≡ m) × (stats' ≡ stats) × (groups' ≡ groups))
-  -- a rewriting of the Rewrite queue counts anew, and a drop of stale files moves and counts nothing
+  -- a rewriting of the Rewrite queue counts anew, and a drop of stale files moves and counts
+  -- nothing
   pub counted : RewritesOnlyRewrite purge → OnOk result (deleted_count stats' ≡ 0)
   pub stale : purge ≡ DropStale → (m' ≡ m) × (stats' ≡ stats) × (groups' ≡ groups)
 

@@ -28,9 +28,9 @@ use Rattle.raft_log_engine.specs.declared.engine.purge_kind.Purge.{Purge}
 use Rattle.raft_log_engine.specs.declared.engine.purge_kind.Purge.TheVariants.{DropStale, RewriteAppend, RewriteRewrite}
 
 module _ {F H R W : Type 0} {g : Ghosts F H R W} where
-  -- each purge, which answers of this queue, and where that may be leaves an atomic group open, or lacks
-  -- an id for one: after `Ok` a crash leaves all contents, at any moment what it could leave before. The
-  -- queue loses no file where the engine fails
+  -- each purge, which answers of this queue, and where that may be leaves an atomic group open, or
+  -- lacks an id for one: after `Ok` a crash leaves all contents, at any moment what it could leave
+  -- before. The queue loses no file where the engine fails
   pub record PurgesLog {T : Type 0} (queue : LogQueue) (ends_open no_id : Type 0)
       (result : Result T Fault) (old new : Engine F H R W g) : Type 0 where
     pub contents : contents_of new ≡ contents_of old
@@ -90,8 +90,9 @@ module _ {F H R W : Type 0} {g : Ghosts F H R W} where
     -- short calls that were under way end with it
     pub renewal : LeavesNewFiles result None old.renewal new.renewal
     pub first : OnErr result (HasLostFront (Some barrier) new.log.tables (queue_of old) (queue_of new))
-    -- what stands in the Rewrite queue moves where that was due, then what stands up to the watermark of
-    -- the Append queue where that was; where only the Rewrite queue was, it counts anew what left it
+    -- what stands in the Rewrite queue moves where that was due, then what stands up to the
+    -- watermark of the Append queue where that was; where only the Rewrite queue was, it counts
+    -- anew what left it
     pub moved : OnOk result (MovesDue (needs_of old).rewrite
         (option_map (λ w. w.rewrite) (needs_of old).append) (tables_of old.log.tables)
         (tables_of new.log.tables))
@@ -106,8 +107,8 @@ module _ {F H R W : Type 0} {g : Ghosts F H R W} where
     pub failed : (result ≡ Err fault.Failed) ↔ (has_failed old ≡ true)
     pub unchanged : has_failed old ≡ true → StaysFailed old new
 
-  -- what listeners hear of a purge of which all batches but so many are full, unless the engine fails in
-  -- it; nothing of an engine that had failed
+  -- what listeners hear of a purge of which all batches but so many are full, unless the engine
+  -- fails in it; nothing of an engine that had failed
   pub record HearsOfPurge {T : Type 0} (rests : ℕ) (result : Result T Fault)
       (old new : Engine F H R W g) (heard heard' : Heard) : Type 0 where
     pub told : has_failed new ≡ false → HearsPurge (λ records. OnOk result (AreRecordsCut rests records))

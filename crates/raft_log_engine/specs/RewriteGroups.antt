@@ -19,9 +19,9 @@ use Rattle.raft_tables.specs.declared.memtables.MemTables.{MemTables}
 use Rattle.raft_log_engine.specs.Engine.{has_groups_together, queue_of, rewrite_queue_of}
 use Rattle.raft_log_engine.specs.declared.engine.Engine.{Engine}
 
--- of the groups from this one on and before the next one, which is a known one, nothing stands in the
--- Rewrite queue's files before the first new one, nor of those of which nothing stood there. What stands
--- in the Append queue keeps its place
+-- of the groups from this one on and before the next one, which is a known one, nothing stands in
+-- the Rewrite queue's files before the first new one, nor of those of which nothing stood there.
+-- What stands in the Append queue keeps its place
 pub record HasRenewedFrom (first from : ℕ) (next : Option ℕ) (t t' : Tables) : Type 0 where
   pub emptied : (group : ℕ)
       → ((nat_le from group && comes_before next group) ≡ true) ⊎ IsAllFrom first (or_empty (t group))
@@ -29,16 +29,16 @@ pub record HasRenewedFrom (first from : ℕ) (next : Option ℕ) (t t' : Tables)
   pub only : MovesOnly None t t'
   pub known : IfSome next (λ group. (from < group) × (is_some (t group) ≡ true))
 
--- with which file the Rewrite queue begins then: while groups follow as before; behind the last ones the
--- old files go, all together, where nothing stands in any and the batches of each atomic group stand
--- together
+-- with which file the Rewrite queue begins then: while groups follow as before; behind the last
+-- ones the old files go, all together, where nothing stands in any and the batches of each atomic
+-- group stand together
 abbrev pub first_left : ℕ → Bool → Option ℕ → MemTables → PipeState → ℕ
 first_left first together (Some next) m p = p.first
 first_left first together None m p = first_kept first together m p
 
 module _ {F H R W : Type 0} {g : Ghosts F H R W} where
-  -- the first of the new files, and with it what was known of the atomic groups before: those of the
-  -- short calls that are under way, or of some that begin now
+  -- the first of the new files, and with it what was known of the atomic groups before: those of
+  -- the short calls that are under way, or of some that begin now
   abbrev pub first_new : Engine F H R W g → ℕ
   first_new e = first_new_of e.renewal (rewrite_queue_of e)
 
@@ -46,8 +46,8 @@ module _ {F H R W : Type 0} {g : Ghosts F H R W} where
   abbrev pub files_new : Engine F H R W g → NewFiles
   files_new e = files_new_of e.renewal (rewrite_queue_of e) e.log.groups
 
-  -- the short calls go on while groups follow, and end behind the last ones; one that is refused may end
-  -- them. The Append queue is as it was
+  -- the short calls go on while groups follow, and end behind the last ones; one that is refused
+  -- may end them. The Append queue is as it was
   pub record RenewsGroups (from budget : ℕ) (result : Result (Option ℕ) Fault)
       (old new : Engine F H R W g) : Type 0 where
     pub renewed : IfOk result (λ next. HasRenewedFrom (first_new old) from next

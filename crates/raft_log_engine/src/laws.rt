@@ -30,12 +30,13 @@ use crate::Engine;
 use raft_env::FileSystem;
 
 /// Folders that keep contents through a crash leave them then, possibly with a prefix of the
-/// batches after them: such contents are read first whatever the damage, and alone where that is
-/// detectable. A restart after a crash finds what the crash left. Where that is sound, it keeps it, its log can be opened in each mode but the absolute one,
-/// and no folder's place is taken (`AreClear`), nor does a kept number stand in both folders
-/// (`AreSingleIn`). Where no log stands, nothing is read and nothing is kept. Files that no crash
-/// met, as an engine gave them up, stand for what a crash could leave, and their log can be opened,
-/// where their damage is detectable: what a failed write left of its record may be any bytes.
+/// batches after them. These contents are read first whatever the damage, and nothing after them is
+/// read if the damage is detectable. A restart after a crash finds what the crash left. If that is
+/// sound, the restart keeps it, its log can be opened in each mode except the absolute one, no
+/// folder's path is taken (`AreClear`), and no kept number is in both folders (`AreSingleIn`). If
+/// there is no log, nothing is read and nothing is kept. Files without a crash, as an engine gave
+/// them up, are a case of what a crash could leave. Their log can be opened if their damage is
+/// detectable: a failed write may leave any bytes of its record.
 pub fn crash_leaves_contents()
     ensures left { (folders : Folders) (m : Contents) (batches : List Batch) (n : Directory)
         → RecoversContents folders m batches n → LeavesAllowed folders m batches n }
@@ -65,9 +66,10 @@ pub fn crash_leaves_contents()
     raft_queue_laws::queue::crash_leaves_a_prefix();
 }
 
-/// What an engine keeps a crash leaves now: what is durable, and a prefix of what is unsynced, and
-/// so while no call changes its files, with any batches more. Both make up what an engine holds
-/// that hasn't failed, and all of them stand in its files: they are what is read there first.
+/// A crash leaves what an engine keeps: what is durable, and a prefix of what is unsynced. This
+/// holds as long as no call changes its files, also with more batches. For an engine that hasn't
+/// failed, both together are its contents, and all of them are in its files: they are read there
+/// first.
 pub fn an_engine_recovers_what_it_keeps<F: FileSystem>(engine: &Engine<F>)
     ensures crash { LeavesAllowed (folders_of engine.now) (durable_of engine.now)
         (unsynced_of engine.now) (directory_of engine.now) }
@@ -81,13 +83,12 @@ pub fn an_engine_recovers_what_it_keeps<F: FileSystem>(engine: &Engine<F>)
         (directory_of engine.now) }
 {}
 
-/// The premise on damage can be met of an engine that hasn't failed. If its opening found no record
-/// of a failed call in the log (as after a crash, where no log stood, or after a `close` or
-/// `reopen` of an engine of which that is true), and of the log's calls, also those before the
-/// opening, only writes failed, and nothing decodes that a last log file held when it was renamed,
-/// the damage of a crash that leaves every file with all its bytes now, or with those of its last
-/// sync, is detectable
-/// (`AreConsistent`: as in memory always).
+/// The premise on damage can be met for an engine that hasn't failed, under these conditions. Its
+/// opening found no record of a failed call in the log: this is so after a crash, if there was no
+/// log, and after a `close` or `reopen` of an engine of which it is true. Of the log's calls, also
+/// those before the opening, only writes failed. Nothing decodes that a last log file held when it
+/// was renamed. Then the damage of a crash is detectable that leaves every file with all its bytes
+/// now, or with those of its last sync (`AreConsistent`: always so in memory).
 pub fn the_damage_of_an_engine_is_detectable<F: FileSystem>(engine: &Engine<F>)
     ensures crash { let folders = folders_of engine.now in let n = directory_of engine.now in
         has_failed engine.now ≡ false → FoundCompletedRecords engine.now
@@ -97,17 +98,17 @@ pub fn the_damage_of_an_engine_is_detectable<F: FileSystem>(engine: &Engine<F>)
     raft_queue_laws::damage::damage_of_a_queue_is_detectable();
 }
 
-/// A next log file that a queue of an engine that hasn't failed goes on to has the settings' version
-/// and size, and purges have room for so many files to be used again as the settings say: none where
-/// they don't recycle, and none of the Rewrite queue.
+/// The next log file of a queue of an engine that hasn't failed has the settings' version and size.
+/// Purges keep as many files for reuse as the settings say: none if these don't recycle, and none
+/// of the Rewrite queue.
 pub fn pipes_are_made_by_the_settings<F: FileSystem>(engine: &Engine<F>)
     ensures form { has_failed engine.now ≡ false
         → HaveForm (form_by (settings_of engine.now)) engine.now.log.store.pipes }
 {}
 
-/// Where no log stands each atomic group's batches stand together: a new engine knows that of itself.
-/// And an engine that knows it leaves, after a crash between two calls whose damage is detectable, a log
-/// of which an opening finds it; after a close its clause `together` says so.
+/// Without a log each atomic group's batches are adjacent, and a new engine knows it. After a crash
+/// between two calls whose damage is detectable, an engine that knows it leaves a log of which an
+/// opening finds it. After a close its clause `together` says so.
 pub fn groups_stand_together<F: FileSystem>(engine: &Engine<F>)
     ensures none { (folders : Folders) (n : Directory) → HasNoLog folders n
         → do_groups_ascend (readable_queue Rewrite folders n) ≡ true }
@@ -117,8 +118,8 @@ pub fn groups_stand_together<F: FileSystem>(engine: &Engine<F>)
         → do_groups_ascend (left_of_queue Rewrite folders n d) ≡ true }
 {}
 
-/// The bytes of log files, each the only one of its number, make blocks of which `HasFound.read`
-/// speaks: of such files is a log that an opening answers (`CanBeOpenedIn`).
+/// If each log file is the only one of its number, the bytes of the files make the blocks of
+/// `HasFound.read`: a log that an opening accepts (`CanBeOpenedIn`) has such files.
 pub fn log_files_have_blocks()
     ensures { (folders : Folders) (n : Directory)
         → ((queue : LogQueue) → AreSingle (all_of folders) queue n)

@@ -7,6 +7,7 @@ pub mod laws;
 
 pub use engine::{Engine, FileSpans, GroupImage, Image, Refused};
 pub use raft_config::{Config, RecoveryMode};
+pub use raft_entry_blocks::CacheCounts;
 pub use raft_env::{FileSystem, FsFault, Permission};
 pub use raft_listeners::{
     Event, EventListener, EventSink, FileKeeper, Listeners, NoListeners, PurgeHook,

@@ -43,8 +43,8 @@ impl<F: FileSystem> Engine<F> {
     }
 }
 
-// Tells what a purge made of these files: the next one of the Append queue, and of each queue the last
-// one that was dropped. The hook needs room for a file.
+// Reports what a purge changed of these files: the next one of the Append queue, and of each queue
+// the last one that was dropped. The hook needs room for a file.
 fn tell_changes<L: EventSink>(found: &FileSpans, left: &FileSpans, listeners: &mut L)
     requires room { 0 < (L.heard listeners.old).room }
     requires fits { found.now.append.1 < 10 ^ 16 }
@@ -61,7 +61,7 @@ fn tell_changes<L: EventSink>(found: &FileSpans, left: &FileSpans, listeners: &m
     tell_dropped(listeners, LogQueue::Append, found.append.0, left.append.0);
 }
 
-// Tells where the Append queue went on to a next file.
+// Reports the Append queue's next file, if it began one.
 fn tell_begun<L: EventSink>(listeners: &mut L, before: FileSeq, last: FileSeq)
     requires room { 0 < (L.heard listeners.old).room }
     requires fits { before < 10 ^ 16 }
@@ -74,7 +74,7 @@ fn tell_begun<L: EventSink>(listeners: &mut L, before: FileSeq, last: FileSeq)
     listeners.tell(Event::NewLogFile(FileId::new(LogQueue::Append, before + 1)));
 }
 
-// Tells where the first file of a queue is a later one.
+// Reports the last dropped file of a queue, if its first file is a later one.
 fn tell_dropped<L: EventSink>(listeners: &mut L, queue: LogQueue, before: FileSeq, first: FileSeq)
     ensures told { HasHeard (files_dropped queue before first) (L.heard listeners.old)
         (L.heard listeners.new) }
