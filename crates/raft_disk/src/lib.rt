@@ -10,6 +10,8 @@ mod names;
 mod opening;
 mod places;
 mod root;
+mod span_file;
+mod spans;
 mod told;
 mod view;
 
@@ -19,5 +21,6 @@ pub use image::Image;
 pub use mirror::{DiskHandle, DiskReader, DiskWriter, Mirror};
 pub use names::{is_log_name, is_plain};
 pub use opening::{DiskFileSystem, OpenFault};
+pub use spans::{Span, SpanNote, SpanReport, SpanReports, Spans};
 pub use told::Call;
 pub use view::{FolderView, image_of};

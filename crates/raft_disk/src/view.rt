@@ -7,10 +7,13 @@ ghost use Rattle.raft_memory.specs.Settled.{settled_files};
 use crate::names::{LOCK, is_log_name};
 use crate::opening::{OpenFault, check_lock, check_mark, check_place};
 use crate::root::Root;
+use crate::span_file::read_note;
+use crate::spans::{SPANS, SpanNote, is_note, latest};
 use raft_memory::MemoryFileSystem;
 use std::alloc::Global;
 use std::fs::{self, DirEntry, File, TryLockError};
 use std::io::{self, ErrorKind, Read, Seek, SeekFrom};
+use std::os::unix::fs::MetadataExt;
 
 /// A folder whose files can be read. It has no call that changes one, makes a name or waits for a
 /// lock. While it lasts, no process can begin to write to the folder.
@@ -58,7 +61,7 @@ impl FolderView {
     }
 
     /// The names of the files in a folder, by its path from here, in the order of their bytes,
-    /// except the lock's and those that are not UTF-8. Links count as their targets.
+    /// except the lock's, the note's and those that are not UTF-8. Links count as their targets.
     pub fn names(&self, folder: &str) -> Result<Vec<String>, OpenFault> {
         let place = self.place(folder)?;
         let entries = match fs::read_dir(&self.rt, place.as_str()) {
@@ -86,7 +89,7 @@ impl FolderView {
     ) -> Result<(), OpenFault> {
         let alloc = self.rt.alloc();
         let place = entry.path();
-        if entry.file_name() == LOCK {
+        if entry.file_name() == LOCK || entry.file_name() == SPANS {
             return Ok(());
         }
         match fs::metadata(&self.rt, place.as_str()) {
@@ -128,6 +131,16 @@ impl FolderView {
         }
     }
 
+    /// The note of which numbers the log's files have had; none if there is none, or if both its
+    /// slots are broken. While a writer has the folder, read it before and after the names.
+    pub fn spans(&self) -> Result<Option<SpanNote>, OpenFault> {
+        let place = self.place(SPANS)?;
+        match find_note(&self.rt, place.as_str()) {
+            Ok(note) => Ok(note),
+            Err(e) => Err(self.fault(SPANS, e)),
+        }
+    }
+
     fn place(&self, path: &str) -> Result<String, OpenFault> {
         match self.root.place(self.rt.alloc(), path) {
             Ok(place) => Ok(place),
@@ -150,6 +163,20 @@ fn open_lock(rt: &HostRuntime, root: &Root) -> io::Result<Option<File>> {
         Err(e) if e.kind() == ErrorKind::NotFound => Ok(None),
         Err(e) => Err(e),
     }
+}
+
+fn find_note(rt: &HostRuntime, place: &str) -> io::Result<Option<SpanNote>> {
+    match fs::symlink_metadata(rt, place) {
+        Ok(metadata) if metadata.is_file() && metadata.nlink() == 1 => {}
+        Ok(_) => return Ok(None),
+        Err(e) if e.kind() == ErrorKind::NotFound => return Ok(None),
+        Err(e) => return Err(e),
+    }
+    let bytes = read_note(rt.alloc(), &File::open(rt, place)?)?;
+    if !is_note(&bytes) {
+        return Ok(None);
+    }
+    Ok(latest(rt.alloc(), &bytes)?.map(|(_, note)| note))
 }
 
 // Takes the lock with others that look, if it can. A system without locks tells of no writer.

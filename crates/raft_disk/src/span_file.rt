@@ -1,0 +1,247 @@
+//! The file `SPANS` of a folder that is open to be changed. No clause says what the system did: this
+//! file is to be read.
+//!
+//! A note is written to the slot that has not the one that a crash leaves. So a write that a crash
+//! tears leaves the note before, which is true: a file that it needs is deleted or renamed only
+//! after a later note was synced. A refused note fails no write of the log.
+
+use crate::places::sync_folder;
+use crate::root::Root;
+use crate::spans::{SLOT_LEN, SPANS, Span, SpanReports, Spans, is_note, latest};
+use raft_base::LogQueue;
+use std::alloc::Global;
+use std::fs::{self, File, OpenOptions};
+use std::io::{self, ErrorKind, Read};
+use std::os::unix::fs::{FileExt, MetadataExt};
+
+/// The file of the note, and the spans as the folder knows them.
+#[derive(Drop)]
+pub(crate) struct SpanFile {
+    /// The file that has a note; none if there is none.
+    file: Option<File>,
+    /// Whether something else has the note's name: then no note is written.
+    is_taken: bool,
+    spans: Spans,
+    count: u64,
+    /// The slot of the note that a crash leaves.
+    synced: u64,
+    /// Whether the folder knows more than the note.
+    is_behind: bool,
+    /// What the note told at the opening; none if there was no note.
+    reports: Option<SpanReports>,
+}
+
+impl SpanFile {
+    fn new(alloc: Global) -> SpanFile {
+        SpanFile {
+            file: None,
+            is_taken: false,
+            spans: Spans::empty(alloc),
+            count: 0,
+            synced: 1,
+            is_behind: false,
+            reports: None,
+        }
+    }
+
+    /// Reads the note of a folder, after it was synced.
+    pub(crate) fn open(rt: &HostRuntime, root: &Root) -> io::Result<SpanFile> {
+        let mut found = SpanFile::new(rt.alloc());
+        let place = root.place(rt.alloc(), SPANS)?;
+        let metadata = match fs::symlink_metadata(rt, place.as_str()) {
+            Ok(metadata) => metadata,
+            Err(e) if e.kind() == ErrorKind::NotFound => return Ok(found),
+            Err(e) => return Err(e),
+        };
+        found.is_taken = !metadata.is_file() || metadata.nlink() != 1;
+        if !found.is_taken {
+            found.read(rt, place.as_str())?;
+        }
+        Ok(found)
+    }
+
+    fn read(&mut self, rt: &HostRuntime, place: &str) -> io::Result<()> {
+        let mut options = OpenOptions::new();
+        let file = options.read(true).write(true).open(rt, place)?;
+        file.sync_all()?;
+        let bytes = read_note(rt.alloc(), &file)?;
+        self.is_taken = !is_note(&bytes);
+        if self.is_taken {
+            return Ok(());
+        }
+        if let Some((slot, note)) = latest(rt.alloc(), &bytes)? {
+            self.spans = note.spans;
+            self.count = note.count;
+            self.synced = slot;
+        }
+        self.file = Some(file);
+        Ok(())
+    }
+
+    /// Notes the second folder that the log's settings name.
+    pub(crate) fn see_spill(&mut self, alloc: Global, spill: Option<&str>) -> io::Result<()> {
+        if let Some(spill) = spill {
+            self.spans.spill = String::from_str(alloc, spill)?;
+        }
+        Ok(())
+    }
+
+    /// Compares the note with the files that an opening found. Writes a new one if there is none, if
+    /// a crash left it old, or if another program made it stale.
+    pub(crate) fn begin(
+        &mut self,
+        rt: &HostRuntime,
+        root: &Root,
+        files: &[(String, Vec<u8>)],
+    ) -> io::Result<()> {
+        let alloc = rt.alloc();
+        let append = self.numbers_of(alloc, files, LogQueue::Append)?;
+        let rewrite = self.numbers_of(alloc, files, LogQueue::Rewrite)?;
+        if self.count != 0 {
+            self.reports = Some(SpanReports {
+                append: self.spans.append.report(alloc, &append)?,
+                rewrite: self.spans.rewrite.report(alloc, &rewrite)?,
+            });
+        }
+        let (noted_append, noted_rewrite) = (self.spans.append, self.spans.rewrite);
+        self.spans.append = noted_append.at_opening(&append);
+        self.spans.rewrite = noted_rewrite.at_opening(&rewrite);
+        if self.spans.append != noted_append || self.spans.rewrite != noted_rewrite {
+            let _ = self.write(rt, root, true);
+        }
+        Ok(())
+    }
+
+    // The numbers of a queue's files, in ascending order.
+    fn numbers_of(
+        &self,
+        alloc: Global,
+        files: &[(String, Vec<u8>)],
+        queue: LogQueue,
+    ) -> io::Result<Vec<u64>> {
+        let mut numbers = Vec::new(alloc);
+        for (path, _) in files {
+            match self.spans.number_at(path.as_str()) {
+                Some((of, number)) if of == queue => numbers.push(number)?,
+                _ => {}
+            }
+        }
+        numbers.sort()?;
+        Ok(numbers)
+    }
+
+    /// What the note told at the opening; none if there was no note.
+    pub(crate) fn reports(&self) -> Option<&SpanReports> {
+        self.reports.as_ref()
+    }
+
+    /// Notes and syncs that a file was made. If that is refused, the note before stays, which is
+    /// true.
+    pub(crate) fn add(&mut self, rt: &HostRuntime, root: &Root, path: &str) {
+        let Some((queue, number)) = self.spans.number_at(path) else {
+            return;
+        };
+        if self.spans.span(queue).add(number) {
+            self.end_dropping();
+            let _ = self.write(rt, root, true);
+        }
+    }
+
+    /// Notes and syncs that a file will get another name. If that is refused, the note is removed;
+    /// it fails if that is refused too.
+    pub(crate) fn leave(&mut self, rt: &HostRuntime, root: &Root, path: &str) -> io::Result<()> {
+        let Some((queue, number)) = self.spans.number_at(path) else {
+            return Ok(());
+        };
+        if !self.spans.span(queue).leave(number) {
+            return Ok(());
+        }
+        self.end_dropping();
+        self.write_or_remove(rt, root)
+    }
+
+    /// The same if a file will be deleted. Only the first of several deletions is synced.
+    pub(crate) fn delete(&mut self, rt: &HostRuntime, root: &Root, path: &str) -> io::Result<()> {
+        let Some((queue, number)) = self.spans.number_at(path) else {
+            return Ok(());
+        };
+        if self.spans.span(queue).delete(number) {
+            self.write_or_remove(rt, root)?;
+        }
+        self.is_behind = true;
+        Ok(())
+    }
+
+    /// Writes what the deletions before this call left. A crash may leave the note before.
+    pub(crate) fn catch_up(&mut self, rt: &HostRuntime, root: &Root) {
+        if self.is_behind && self.file.is_some() {
+            self.end_dropping();
+            let _ = self.write(rt, root, false);
+        }
+        self.is_behind = false;
+    }
+
+    fn end_dropping(&mut self) {
+        self.spans.append.is_dropping = false;
+        self.spans.rewrite.is_dropping = false;
+    }
+
+    fn write_or_remove(&mut self, rt: &HostRuntime, root: &Root) -> io::Result<()> {
+        if self.file.is_none() || self.write(rt, root, true).is_ok() {
+            return Ok(());
+        }
+        self.file = None;
+        remove_note(rt, root)
+    }
+
+    fn write(&mut self, rt: &HostRuntime, root: &Root, is_synced: bool) -> io::Result<()> {
+        if self.is_taken {
+            return Ok(());
+        }
+        let slot = 1 ^ (self.synced & 1);
+        let bytes = self.spans.slot(rt.alloc(), self.count.saturating_add(1))?;
+        let is_new = self.file.is_none();
+        if is_new {
+            self.file = Some(make_note(rt, root)?);
+        }
+        if let Some(file) = &self.file {
+            file.write_all_at(&bytes, slot * SLOT_LEN as u64)?;
+            self.count = self.count.saturating_add(1);
+            if is_synced {
+                file.sync_data()?;
+                self.synced = slot;
+                self.is_behind = false;
+            }
+        }
+        if is_new {
+            sync_folder(rt, root.at())?;
+        }
+        Ok(())
+    }
+}
+
+/// Removes the note of a folder, so that a crash doesn't bring it back. None may be there.
+pub(crate) fn remove_note(rt: &HostRuntime, root: &Root) -> io::Result<()> {
+    let place = root.place(rt.alloc(), SPANS)?;
+    match fs::remove_file(rt, place.as_str()) {
+        Ok(()) => sync_folder(rt, root.at()),
+        Err(e) if e.kind() == ErrorKind::NotFound => Ok(()),
+        Err(e) => Err(e),
+    }
+}
+
+fn make_note(rt: &HostRuntime, root: &Root) -> io::Result<File> {
+    let place = root.place(rt.alloc(), SPANS)?;
+    let mut options = OpenOptions::new();
+    options.read(true).write(true).create_new(true);
+    let file = options.open(rt, place.as_str())?;
+    file.set_len(2 * SLOT_LEN as u64)?;
+    Ok(file)
+}
+
+/// The bytes of a file of notes; of a longer file one byte more than the slots have.
+pub(crate) fn read_note(alloc: Global, file: &File) -> io::Result<Vec<u8>> {
+    let mut bytes = Vec::with_capacity(alloc, 2 * SLOT_LEN + 2)?;
+    file.take(2 * SLOT_LEN as u64 + 1).read_to_end(&mut bytes)?;
+    Ok(bytes)
+}

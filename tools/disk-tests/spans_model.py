@@ -1,0 +1,317 @@
+"""A model of a log's file names and of the note of their spans (SPANS), with crashes.
+
+    spans_model.py [--seeds N]
+
+Each seed is a list of rotations, recycled rotations, purges, closes, openings and crashes of one queue. A crash may come
+before and after each change of a name and each write of the note. Names change at once, in their order. A written note that
+was not synced may be there or not: any of those since the last sync. Three programs write notes: raft_disk, which sees one
+call at a time; the library for C, which sees the deletions of a purge together; and another one that writes none.
+
+The model fails if a note ever reports as missing or stray what only crashes did. It counts what is reported of files that
+are taken away, or put there, between two calls. The controls must report something false: a note that is written too late,
+or that is not synced. Status: 0 if all this is so."""
+import argparse
+import itertools
+import random
+import sys
+
+RUNS = ('disk', 'c', 'mixed', 'foreign')
+CONTROLS = ('first-late', 'first-unsynced', 'slots-in-turn', 'last-early', 'no-dropping-mark')
+
+
+TORN = (0, None)
+
+
+class Span:
+    def __init__(self, first=1, last=0, is_dropping=False):
+        self.first, self.last, self.is_dropping = first, last, is_dropping
+
+    def copy(self):
+        return Span(self.first, self.last, self.is_dropping)
+
+    def end(self, files):
+        end = self.last
+        while end + 1 in files:
+            end += 1
+        return end
+
+    def front(self, files):
+        if not self.is_dropping:
+            return self.first
+        later = [number for number in files if number >= self.first]
+        return max(self.first, min(later + [self.last]))
+
+    def is_stale(self, files):
+        end = self.end(files)
+        has_own = any(self.first <= number <= self.last for number in files)
+        return end > self.last + 1 or (any(number > end for number in files) and not has_own)
+
+    def __eq__(self, other):
+        return vars(self) == vars(other)
+
+    def at_opening(self, files):
+        if self.is_stale(files):
+            run = kept(files)
+            return Span(run[0], run[-1]) if run else Span()
+        return Span(self.front(files), self.end(files))
+
+    def report(self, files):
+        """Missing, stray and left-over numbers, and whether the note is stale."""
+        if self.is_stale(files):
+            return [], [], [], True
+        end = self.end(files)
+        missing = [number for number in range(self.front(files), self.last + 1) if number not in files]
+        return missing, [it for it in files if it > end], [it for it in files if it < self.first], False
+
+
+def kept(files):
+    """The files that an opening reads: those after the last missing number."""
+    run = []
+    for number in sorted(files):
+        run = run + [number] if run and run[-1] + 1 == number else [number]
+    return run
+
+
+class Crash(Exception):
+    """The process ends here."""
+
+
+class Log:
+    """The files of a queue, what a crash leaves of the note, and the process that has the log open."""
+
+    def __init__(self, chance, writer, control, check):
+        self.chance, self.writer, self.control, self.check = chance, writer, control, check
+        self.files, self.needed, self.last = set(), 1, 0
+        self.slots, self.synced, self.count = [[TORN], [TORN]], 1, 0
+        self.span, self.is_behind = None, False
+        self.crash_in = None
+        self.syncs = self.rotations = self.purges = self.deleted = 0
+
+    # ---- what the disk does
+
+    def moment(self):
+        self.check(self)
+        if self.crash_in is not None:
+            self.crash_in -= 1
+            if self.crash_in < 0:
+                raise Crash
+
+    def notes(self):
+        """What a crash may leave: of each slot any of the notes that it may hold; the later one counts."""
+        return [max(pair, key=lambda it: it[0])[1] for pair in itertools.product(*self.slots)]
+
+    def current(self):
+        """The note that a process reads now."""
+        return max((slot[-1] for slot in self.slots), key=lambda it: it[0])[1]
+
+    def write(self, is_synced):
+        if self.span is None:
+            return
+        self.count += 1
+        place = self.count % 2 if self.control == 'slots-in-turn' else 1 - self.synced
+        self.slots[place] += [TORN, (self.count, self.span.copy())]
+        self.is_behind = False
+        self.moment()
+        if is_synced and self.control != 'first-unsynced':
+            self.slots = [[slot[-1]] for slot in self.slots]
+            self.synced = place
+            self.syncs += 1
+            self.moment()
+
+    def remove(self, number):
+        self.files.discard(number)
+        self.moment()
+
+    # ---- what the writer does
+
+    def make(self, number, old=None):
+        """Makes a file, or renames one to it."""
+        if old is not None:
+            self.leave(old)
+        if self.control == 'last-early' and self.span:
+            self.span.last = max(self.span.last, number)
+            self.write(True)
+        if old is not None:
+            self.files.discard(old)
+        self.files.add(number)
+        self.last = number
+        self.moment()
+        if self.span is None:
+            return
+        if self.span.last == 0:
+            self.span.first = self.span.last = number
+        elif number == self.span.last + 1:
+            self.span.last = number
+        else:
+            return
+        self.span.is_dropping = False
+        self.write(True)
+
+    def leave(self, number, up_to=None):
+        if self.span is None or number < self.span.first:
+            return
+        self.span.first = (up_to or number) + 1
+        self.span.last = max(self.span.last, up_to or number)
+        self.span.is_dropping = False
+        if self.control != 'first-late':
+            self.write(True)
+
+    def delete(self, number, up_to):
+        span = self.span
+        if span is not None and number >= span.first:
+            if self.writer == 'c':
+                self.leave(number, up_to)
+            else:
+                is_next = span.is_dropping and number == span.first
+                span.first, span.last = number + 1, max(span.last, number)
+                span.is_dropping = self.control != 'no-dropping-mark'
+                if not is_next and self.control not in ('first-late', 'no-dropping-mark'):
+                    self.write(True)
+                elif self.control == 'no-dropping-mark' and number % 2:
+                    self.write(True)
+                self.is_behind = True
+        self.remove(number)
+        self.deleted += 1
+
+    def catch_up(self):
+        if self.span is not None and self.is_behind:
+            self.span.is_dropping = False
+            self.write(False)
+        if self.control == 'first-late':
+            self.write(True)
+
+    # ---- what the engine does
+
+    def spares(self):
+        return sorted(number for number in self.files if number < self.needed)
+
+    def rotate(self):
+        self.rotations += 1
+        spares = self.spares() if self.chance.random() < .8 else []
+        self.make(self.last + 1, spares[0] if spares else None)
+        self.catch_up()
+
+    def purge(self):
+        if self.last - self.needed < 1:
+            return
+        self.purges += 1
+        to = self.chance.randint(self.needed + 1, self.last)
+        room = max(0, self.chance.choice((0, 0, 2, 6)) - len(self.spares()))
+        gone = [number for number in range(self.needed, to)]
+        self.needed = to
+        for number in gone[room:]:
+            self.delete(number, gone[-1])
+        if self.chance.random() < .8:
+            self.catch_up()
+
+    def close(self):
+        """Gives the spares reserved names, from the last one on, as far as one has none."""
+        self.catch_up()
+        for number in reversed(self.spares()):
+            self.leave(number)
+            self.remove(number)
+
+    def open(self, writer):
+        """Reads the note and the names. A crash before it chose what is there."""
+        run = kept(self.files)
+        self.writer = writer
+        note = self.current()
+        self.needed = max(self.needed, run[0]) if run else 1
+        self.last = run[-1] if run else 0
+        if writer == 'foreign':
+            self.span = None
+        else:
+            self.span = (note or Span()).at_opening(self.files)
+            if self.span != (note or Span()):
+                self.write(True)
+        if not run:
+            self.make(1)
+
+    def crash(self):
+        self.slots = [[self.chance.choice(slot)] for slot in self.slots]
+        self.synced = self.slots.index(max(self.slots, key=lambda slot: slot[0][0]))
+        self.count = max(slot[0][0] for slot in self.slots)
+        self.span = None
+
+
+class Counts:
+    def __init__(self):
+        self.images = self.false = self.hidden = self.gone = self.ends = self.ends_hidden = self.alls = 0
+        self.alls_hidden = self.strays = self.strays_hidden = self.no_note = self.stale = self.gaps = 0
+
+    def look(self, log):
+        """A crash at this moment."""
+        note = log.chance.choice(log.notes())
+        self.images += 1
+        self.gaps += bool(log.files) and kept(log.files)[0] != min(log.files)
+        if note is None:
+            self.no_note += 1
+            return
+        missing, strays, _, is_stale = note.report(log.files)
+        self.stale += is_stale
+        self.false += bool(missing or strays)
+
+    def spoil(self, log):
+        """Someone takes files away, or puts one there, between two calls."""
+        note = log.current()
+        if note is None or log.span is None or not log.files or note.is_stale(log.files):
+            return
+        tells = lambda files: bool([it for it in note.report(files)[:2] if it]) or note.report(files)[3]
+        needed = [number for number in log.files if number >= log.needed]
+        self.gone += 1
+        self.hidden += not tells(log.files - {log.chance.choice(needed)})
+        self.ends += 1
+        self.ends_hidden += not tells(log.files - {max(log.files)})
+        self.alls += 1
+        self.alls_hidden += not tells(set())
+        self.strays += 1
+        self.strays_hidden += not tells(log.files | {log.last + log.chance.randint(2, 9)})
+
+
+def play(seed, run, control, counts):
+    chance = random.Random(seed)
+    writer_of = {'disk': lambda: 'disk', 'c': lambda: 'c', 'mixed': lambda: chance.choice(('disk', 'c')),
+                 'foreign': lambda: chance.choice(('disk', 'c', 'foreign'))}[run]
+    log = Log(chance, 'disk', control, counts.look if run != 'foreign' else lambda log: None)
+    log.open(writer_of())
+    for _ in range(40):
+        try:
+            log.crash_in = chance.randint(0, 12) if chance.random() < .15 else None
+            step = chance.random()
+            if step < .55:
+                log.rotate()
+            elif step < .85:
+                log.purge()
+            else:
+                log.close()
+                log.crash_in = None
+                log.crash()
+                log.open(writer_of())
+            counts.spoil(log)
+        except Crash:
+            log.crash_in = None
+            log.crash()
+            log.open(writer_of())
+    return log
+
+
+def main():
+    parser = argparse.ArgumentParser(description=__doc__, formatter_class=argparse.RawDescriptionHelpFormatter)
+    parser.add_argument('--seeds', type=int, default=300)
+    words = parser.parse_args()
+    is_good = True
+    for run, control in [(run, '') for run in RUNS] + [('disk', control) for control in CONTROLS]:
+        counts = Counts()
+        logs = [play(seed, run, control, counts) for seed in range(words.seeds)]
+        total = {it: sum(getattr(log, it) for log in logs) for it in ('syncs', 'rotations', 'purges', 'deleted')}
+        print(f'{control or run}: {counts.images} crash images, {counts.false} false reports, {counts.no_note} without a note, '
+              f'{counts.stale} stale; a gap of names in {counts.gaps}')
+        print(f'    not reported: {counts.hidden} of {counts.gone} needed files, {counts.ends_hidden} of {counts.ends} last ones, '
+              f'{counts.alls_hidden} of {counts.alls} times all, {counts.strays_hidden} of {counts.strays} strays; {total}')
+        is_good = is_good and (counts.false > 0 if control else counts.false == 0)
+    print('as it should be' if is_good else 'NOT AS IT SHOULD BE')
+    return 0 if is_good else 1
+
+
+if __name__ == '__main__':
+    sys.exit(main())
