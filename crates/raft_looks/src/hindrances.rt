@@ -2,7 +2,7 @@
 
 use anyhow::{Result, anyhow};
 use raft_disk::is_log_name;
-use raft_inspect::{Lines, Word};
+use raft_opening_plan::{Plan, Planner};
 use std::alloc::AllocError;
 use std::fs::{self, DirEntry, Metadata, OpenOptions};
 use std::io::{self, ErrorKind};
@@ -10,29 +10,20 @@ use std::os::unix::fs::MetadataExt;
 
 const LOCK: &str = "LOCK";
 
-/// A path of the system, and why an opening would be refused there.
+/// Why a path is refused, and the command that mends it.
 #[derive(Drop)]
-pub struct Hindrance {
-    pub path: String,
-    pub cause: String,
-}
-
-impl Hindrance {
-    /// Adds a line for it.
-    pub(crate) fn add_line(&self, lines: &mut Lines) -> Result<(), AllocError> {
-        lines.named(&[
-            ("refused", Word::Bytes(self.path.as_bytes())),
-            ("cause", Word::Bytes(self.cause.as_bytes())),
-        ])
-    }
+struct Cause {
+    text: String,
+    mend: String,
 }
 
 /// Adds what an opening would be refused for at the log's own files in a folder of the system. It
 /// opens files to write and writes nothing; a folder that isn't there has none.
 pub(crate) fn add_hindrances(
     rt: &HostRuntime,
+    planner: Planner<'_>,
     folder: &str,
-    found: &mut Vec<Hindrance>,
+    plan: &mut Plan,
 ) -> Result<()> {
     let entries = match fs::read_dir(rt, folder) {
         Ok(entries) => entries,
@@ -41,7 +32,7 @@ pub(crate) fn add_hindrances(
     };
     for entry in entries {
         match entry {
-            Ok(entry) => add_entry(rt, &entry, found)?,
+            Ok(entry) => add_entry(rt, planner, &entry, plan)?,
             // No log file's.
             Err(e) if e.kind() == ErrorKind::InvalidFilename => {}
             Err(e) => return Err(anyhow!("{e}").context(folder)),
@@ -50,48 +41,66 @@ pub(crate) fn add_hindrances(
     Ok(())
 }
 
-fn add_entry(rt: &HostRuntime, entry: &DirEntry, found: &mut Vec<Hindrance>) -> Result<()> {
-    let alloc = rt.alloc();
+fn add_entry(
+    rt: &HostRuntime,
+    planner: Planner<'_>,
+    entry: &DirEntry,
+    plan: &mut Plan,
+) -> Result<()> {
     let is_lock = entry.file_name() == LOCK;
     if !is_lock && !is_log_name(entry.file_name()) {
         return Ok(());
     }
     let place = entry.path();
     let cause = match fs::symlink_metadata(rt, place.as_str()) {
-        Ok(metadata) => cause_of(rt, place.as_str(), &metadata, is_lock)?,
+        Ok(metadata) => cause_of(rt, planner, place.as_str(), &metadata, is_lock)?,
         // A writer deleted it.
         Err(_) => None,
     };
-    if let Some(cause) = cause {
-        let path = String::from_str(alloc, place.as_str())?;
-        found.push(Hindrance { path, cause })?;
+    if let Some(Cause { text, mend }) = cause {
+        let item = planner.refused(place.as_str(), text.as_str(), mend)?;
+        plan.items.push(item)?;
     }
     Ok(())
 }
 
 fn cause_of(
     rt: &HostRuntime,
+    planner: Planner<'_>,
     place: &str,
     metadata: &Metadata,
     is_lock: bool,
-) -> Result<Option<String>, AllocError> {
+) -> Result<Option<Cause>, AllocError> {
     let alloc = rt.alloc();
     // An opening passes over a folder with a log file's name.
     if !is_lock && metadata.is_dir() {
         return Ok(None);
     }
-    if is_lock && !metadata.is_file() {
-        return Ok(Some(String::from_str(alloc, "the lock is no file")?));
+    if !metadata.is_file() {
+        let text = match (is_lock, metadata.is_symlink()) {
+            (true, _) => "the lock is no file",
+            (false, true) => "a link in place of a log file",
+            (false, false) => "neither a file nor a folder",
+        };
+        return Ok(Some(Cause {
+            text: String::from_str(alloc, text)?,
+            mend: planner.move_place(place, "aside")?,
+        }));
     }
-    if !is_lock && (!metadata.is_file() || metadata.nlink() != 1) {
-        let cause = "neither a folder nor a file of one name";
-        return Ok(Some(String::from_str(alloc, cause)?));
+    if !is_lock && metadata.nlink() != 1 {
+        return Ok(Some(Cause {
+            text: String::from_str(alloc, "the file has a second name")?,
+            mend: planner.copy_over(place)?,
+        }));
     }
     match opened(rt, place) {
         Ok(()) => Ok(None),
         // A look works on what may not be written at all.
         Err(e) if e.kind() == ErrorKind::ReadOnlyFilesystem => Ok(None),
-        Err(e) => Ok(Some(format!(in alloc; "{e}")?)),
+        Err(e) => Ok(Some(Cause {
+            text: format!(in alloc; "{e}")?,
+            mend: planner.allow(place)?,
+        })),
     }
 }
 
