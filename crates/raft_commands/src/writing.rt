@@ -56,7 +56,11 @@ pub fn change_by<R: Threads + Sync>(
 // What the system refuses of the log's own files, where a change failed.
 fn tell_refused(rt: HostRuntime, request: &Request<'_>) -> Result<()> {
     let folder = Folder::open(rt, request.folder, &request.options)?;
-    Ok(folder.refused()?.tell(&rt, &request.options)?)
+    Ok(
+        folder
+            .refused(&request.options)?
+            .tell(&rt, &request.options)?,
+    )
 }
 
 fn change_image<R: Threads + Sync>(

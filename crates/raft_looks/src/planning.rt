@@ -2,7 +2,7 @@
 
 use crate::faults::told;
 use crate::folder::Folder;
-use crate::hindrances::{add_hindrances, is_link};
+use crate::hindrances::Places;
 use crate::left_out::ReadFiles;
 use crate::source::is_missing;
 use anyhow::{Result, bail};
@@ -69,12 +69,8 @@ impl Folder {
         let Some(mut plan) = self.plan_of(queues, options, progress)? else {
             return Ok(None);
         };
-        self.add_refused(&mut plan)?;
-        let deletes = match options.base {
-            Some(config) => !config.prefill_for_recycle,
-            None => true,
-        };
-        if deletes {
+        self.add_refused(options, &mut plan)?;
+        if !reads_reserved(options) {
             self.add_reserved(&mut plan)?;
         }
         Ok(Some(plan))
@@ -126,9 +122,9 @@ impl Folder {
     }
 
     /// What the system refuses of the log's own files.
-    pub fn refused(&self) -> Result<Plan> {
+    pub fn refused(&self, options: &Options<'_>) -> Result<Plan> {
         let mut plan = Plan::new(self.alloc);
-        self.add_refused(&mut plan)?;
+        self.add_refused(options, &mut plan)?;
         Ok(plan)
     }
 
@@ -153,20 +149,17 @@ impl Folder {
         Ok(())
     }
 
-    fn add_refused(&self, plan: &mut Plan) -> Result<()> {
-        let planner = self.planner(RecoveryMode::TolerateTailCorruption);
-        add_hindrances(&self.rt, planner, self.path.as_str(), plan)?;
-        let Some(spill) = &self.spill else {
-            return Ok(());
+    fn add_refused(&self, options: &Options<'_>, plan: &mut Plan) -> Result<()> {
+        let places = Places {
+            rt: &self.rt,
+            planner: self.planner(options.mode),
+            reads_reserved: reads_reserved(options),
         };
-        let place = format!(in self.alloc; "{}/{spill}", self.path)?;
-        if is_link(&self.rt, place.as_str()) {
-            let none = String::new(self.alloc);
-            let cause = "the second folder is a link: put the folder itself there";
-            let item = planner.refused(place.as_str(), cause, none)?;
-            return Ok(plan.items.push(item)?);
+        places.add_refused(self.path.as_str(), plan)?;
+        if let Some(spill) = &self.spill {
+            places.add_spill(self.path.as_str(), spill.as_str(), plan)?;
         }
-        add_hindrances(&self.rt, planner, place.as_str(), plan)
+        Ok(())
     }
 
     fn add_reserved(&self, plan: &mut Plan) -> Result<()> {
@@ -244,6 +237,14 @@ impl Folder {
             }
         }
         Ok(true)
+    }
+}
+
+// Whether an opening reads the reserved files, and does not delete them.
+fn reads_reserved(options: &Options<'_>) -> bool {
+    match options.base {
+        Some(config) => config.prefill_for_recycle,
+        None => false,
     }
 }
 
