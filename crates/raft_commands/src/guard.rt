@@ -90,7 +90,13 @@ fn survey_files<F: FileSystem>(
     };
     let folder = Folder::open(*rt, request.folder, options)?;
     let mut progress = Progress::new(*rt, options.quiet)?;
-    match folder.plan_of(&queues, options, &mut progress)? {
+    // The files of a folder that is opened are known to be allowed.
+    let plan = if options.changing.dry_run {
+        folder.whole_plan(&queues, options, &mut progress)?
+    } else {
+        folder.plan_of(&queues, options, &mut progress)?
+    };
+    match plan {
         Some(plan) => Ok(Survey { queues, plan }),
         None => Err(anyhow!("a file of it was deleted meanwhile").context(request.folder)),
     }

@@ -32,9 +32,9 @@ pub(crate) struct ReadFiles<'a> {
 enum Kinship {
     /// No number is in both.
     Apart,
-    /// One of a number in both begins with the same bytes, or holds nothing.
+    /// One of a number in both begins with the same bytes, or all of them hold nothing.
     Copy,
-    /// This number is in both, with other bytes.
+    /// This number is in both.
     Doubled(FileId),
 }
 
@@ -148,30 +148,22 @@ impl ReadFiles<'_> {
 
     fn kinship_of(&self, there: &[LogFile]) -> Result<Kinship> {
         let mut kinship = Kinship::Apart;
+        let mut is_empty = true;
         for file in there {
+            let front = self.front_of(file.path.as_str())?;
+            let holds = holds_more_than_header(&front);
+            is_empty = is_empty && !holds;
             for own in self.files {
                 if own.id != file.id {
                     continue;
                 }
-                if self.is_copy(own.path.as_str(), file.path.as_str())? {
+                if holds && begin_alike(&self.front_of(own.path.as_str())?, &front) {
                     return Ok(Kinship::Copy);
                 }
                 kinship = Kinship::Doubled(own.id);
             }
         }
-        Ok(kinship)
-    }
-
-    // Whether a file holds nothing, or begins as another one does.
-    fn is_copy(&self, own: &str, other: &str) -> Result<bool> {
-        let theirs = self.front_of(other)?;
-        let is_empty = theirs.len() <= LogFileFormat::max_encoded_len();
-        if is_empty || LogFileFormat::decode(&mut theirs.as_slice()).is_err() {
-            return Ok(true);
-        }
-        let ours = self.front_of(own)?;
-        let is_bare = ours.len() <= LogFileFormat::max_encoded_len();
-        Ok(!is_bare && (ours.starts_with(&theirs) || theirs.starts_with(&ours)))
+        Ok(if is_empty { Kinship::Copy } else { kinship })
     }
 
     // The first bytes of a file; none if a writer deleted it.
@@ -197,6 +189,17 @@ impl ReadFiles<'_> {
         }
         Ok(false)
     }
+}
+
+// Whether a file that begins so has a header, and something after it.
+fn holds_more_than_header(front: &[u8]) -> bool {
+    let mut rest = front;
+    front.len() > LogFileFormat::max_encoded_len() && LogFileFormat::decode(&mut rest).is_ok()
+}
+
+// Whether two files begin with the same bytes, and more than a header.
+fn begin_alike(one: &[u8], other: &[u8]) -> bool {
+    holds_more_than_header(one) && (one.starts_with(other) || other.starts_with(one))
 }
 
 // Whether one of the others is among the files, by its number.

@@ -44,8 +44,8 @@ fn fork_source(
         return Err(anyhow!("it is open already").context(request.folder));
     }
     let settings = config(rt.alloc(), &request.options)?;
-    let copies = plan(rt, source, target, &settings)?;
     let status = status_of_source(rt, request)?;
+    let copies = plan(rt, source, target, &settings)?;
     match DiskFileSystem::open_with(rt, target, None) {
         Ok(mut files) => {
             copy_or_tell(rt, source, &copies, &mut files, request)?;

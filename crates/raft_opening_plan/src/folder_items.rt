@@ -8,8 +8,8 @@ use raft_records::{FileId, LogQueue};
 use std::alloc::AllocError;
 
 impl Planner<'_> {
-    /// A folder inside the log's with files of the log, which is not read. `doubled` is a file that
-    /// the log's folder has too, with other bytes.
+    /// A folder inside the log's with files of the log, which is not read. `doubled` is a file whose
+    /// number the log's folder has too.
     pub fn left_out_folder(
         &self,
         folder: &str,
@@ -20,8 +20,8 @@ impl Planner<'_> {
         let (cause, mend) = match doubled {
             Some(id) => (
                 format!(in self.alloc;
-                    "number {} of queue {} is there too, with other bytes: which of both folders \
-                    has the log cannot be known",
+                    "number {} of queue {} is there too: which of both folders has the log cannot \
+                    be known",
                     id.seq,
                     queue_name(id.queue)
                 )?,

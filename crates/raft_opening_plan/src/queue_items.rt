@@ -136,6 +136,10 @@ impl Planner<'_> {
         let Some(passed) = found.passed() else {
             return Ok(());
         };
+        // Nothing is missing: a number is there twice.
+        if found.is_doubled() {
+            return Ok(());
+        }
         if is_stray {
             return self.add_strays(found, passed, plan);
         }
