@@ -10,7 +10,7 @@ use raft_command_line::Options;
 use raft_config::RecoveryMode;
 use raft_console::Progress;
 use raft_inspect::{Behind, BehindSearch, Cut, QueueFiles, cuts_of, search_behind};
-use raft_opening_plan::{Plan, Planner, Span, may_be_stray};
+use raft_opening_plan::{Known, Plan, Planner, may_be_stray};
 use raft_records::{Fault, LogQueue};
 
 /// How many places are searched before progress is reported.
@@ -93,8 +93,8 @@ impl Folder {
         self.add_unread(planner, &mut plan)?;
         for found in [&queues.append, &queues.rewrite] {
             let is_stray = self.are_stray(found)?;
-            let span = self.span(found.queue);
-            planner.add_passed(found, is_stray, span, &mut plan)?;
+            let known = self.known(found.queue);
+            planner.add_passed(found, is_stray, known.as_ref(), &mut plan)?;
             if !fails && !is_stray && !self.add_cuts(planner, found, progress, &mut plan)? {
                 return Ok(None);
             }
@@ -116,7 +116,8 @@ impl Folder {
                 return Ok(None);
             };
             let is_stray = self.are_stray(&found)?;
-            planner.add_passed(&found, is_stray, self.span(*queue), &mut plan)?;
+            let known = self.known(*queue);
+            planner.add_passed(&found, is_stray, known.as_ref(), &mut plan)?;
         }
         Ok(Some(plan))
     }
@@ -129,7 +130,7 @@ impl Folder {
     }
 
     // What the note of spans says of a queue.
-    fn span(&self, _queue: LogQueue) -> Option<Span> {
+    fn known(&self, _queue: LogQueue) -> Option<Known> {
         None
     }
 
@@ -142,8 +143,8 @@ impl Folder {
         };
         read.add_left_out(plan)?;
         for queue in &[LogQueue::Append, LogQueue::Rewrite] {
-            if let Some(span) = self.span(*queue) {
-                planner.add_missing(span, &self.files, plan)?;
+            if let Some(known) = self.known(*queue) {
+                planner.add_missing(*queue, &known, "", plan)?;
             }
         }
         Ok(())

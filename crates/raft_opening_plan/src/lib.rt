@@ -14,5 +14,5 @@ mod queue_items;
 pub use item::Item;
 pub use kind::{Change, Kind, Row};
 pub use plan::Plan;
-pub use planner::{Planner, Span};
+pub use planner::{Known, Planner};
 pub use queue_items::may_be_stray;

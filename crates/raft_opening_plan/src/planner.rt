@@ -1,7 +1,6 @@
 //! What makes the items of a plan.
 
 use raft_config::RecoveryMode;
-use raft_records::LogQueue;
 use std::alloc::Global;
 
 /// The log for which a plan is made.
@@ -16,11 +15,16 @@ pub struct Planner<'a> {
     pub mode: RecoveryMode,
 }
 
-/// What the note beside the log files says of a queue: no file before the first number is needed,
-/// and a file of the last number existed.
-#[derive(Clone, Copy, Debug, PartialEq, Eq)]
-pub struct Span {
-    pub queue: LogQueue,
+/// What the note of spans beside the log files says of a queue.
+#[derive(Drop)]
+pub struct Known {
+    /// The numbers of the first file that is needed and of the last one that was made.
     pub first: u64,
     pub last: u64,
+    /// Needed numbers without a file: ranges with both ends.
+    pub missing: Vec<(u64, u64)>,
+    /// Numbers of files that do not follow the last one.
+    pub strays: Vec<u64>,
+    /// Numbers of files that a purge had dropped.
+    pub left_over: Vec<u64>,
 }

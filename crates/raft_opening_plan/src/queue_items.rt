@@ -3,11 +3,11 @@
 use crate::item::Item;
 use crate::kind::Kind;
 use crate::plan::Plan;
-use crate::planner::{Planner, Span};
+use crate::planner::{Known, Planner};
 use raft_config::RecoveryMode;
 use raft_dump::{FileCheck, LogFile, Planned};
 use raft_inspect::{Behind, Cut, Passed, QueueFiles, queue_name};
-use raft_records::Fault;
+use raft_records::{Fault, LogQueue};
 use std::alloc::AllocError;
 
 /// Why files may be passed over.
@@ -40,7 +40,8 @@ impl Planner<'_> {
             bytes: cut.len as u64,
             cause: String::from_str(self.alloc, cause)?,
             mend,
-        })
+        })?;
+        Ok(())
     }
 
     /// The first file at whose bytes the opening fails, and a number that two folders have.
@@ -61,12 +62,13 @@ impl Planner<'_> {
 
     fn broken(&self, found: &QueueFiles, file: &LogFile, check: &FileCheck) -> Result<Item, Fault> {
         let tail = RecoveryMode::TolerateTailCorruption;
+        let opens_in_tail = found.failing(self.alloc, tail)?.is_none();
         let (cause, mend) = match &check.stop {
             Some(Fault::Lz4) => (
                 "entries that LZ4 compressed, which an engine does not read",
                 self.import()?,
             ),
-            Some(Fault::Corruption) if found.failing(self.alloc, tail)?.is_none() => (
+            Some(Fault::Corruption) if opens_in_tail => (
                 "the mode allows no broken bytes",
                 self.raftctl("repair --mode tail")?,
             ),
@@ -121,16 +123,17 @@ impl Planner<'_> {
                 more.end
             )?,
             mend: self.move_aside(file.path.as_str(), "aside")?,
-        })
+        })?;
+        Ok(())
     }
 
-    /// The files that the opening passes over and that hold something. With `is_stray` the files that
-    /// it keeps hold no record, and are named in their place.
+    /// The files that the opening passes over and that hold something. If the files that it keeps
+    /// hold no record (`is_stray`) or do not follow the last known one, they are named instead.
     pub fn add_passed(
         &self,
         found: &QueueFiles,
         is_stray: bool,
-        span: Option<Span>,
+        known: Option<&Known>,
         plan: &mut Plan,
     ) -> Result<(), AllocError> {
         let Some(passed) = found.passed() else {
@@ -140,19 +143,29 @@ impl Planner<'_> {
         if found.is_doubled() {
             return Ok(());
         }
-        if is_stray {
-            return self.add_strays(found, passed, plan);
+        let is_known_stray = known.is_some_and(|known| are_all_in(
+            found.kept_files(),
+            &known.strays,
+        ));
+        if is_stray || is_known_stray {
+            return self.add_strays(found, passed, is_stray, plan);
         }
-        let item = self.passed(found, passed, span, plan)?;
-        plan.items.push(item)
+        let item = self.passed(found, passed, known, plan)?;
+        plan.items.push(item)?;
+        Ok(())
     }
 
     fn add_strays(
         &self,
         found: &QueueFiles,
         passed: Passed,
+        is_empty: bool,
         plan: &mut Plan,
     ) -> Result<(), AllocError> {
+        let why = match is_empty {
+            true => "it holds no header and no record",
+            false => "it does not follow the last file of the log",
+        };
         for (file, check) in found.kept_files().iter().zip(found.kept_checks()) {
             plan.items.push(Item {
                 kind: Kind::Stray,
@@ -161,8 +174,7 @@ impl Planner<'_> {
                 at: 0,
                 bytes: check.len as u64,
                 cause: format!(in self.alloc;
-                    "it holds no header and no record, and hides {} files of {} bytes, numbers {} \
-                    to {} of queue {}",
+                    "{why}, and hides {} files of {} bytes, numbers {} to {} of queue {}",
                     passed.files,
                     passed.bytes,
                     passed.first,
@@ -179,41 +191,43 @@ impl Planner<'_> {
         &self,
         found: &QueueFiles,
         passed: Passed,
-        span: Option<Span>,
+        known: Option<&Known>,
         plan: &Plan,
     ) -> Result<Item, AllocError> {
         let Passed {
-            files,
-            bytes,
             first,
             last,
             missing,
-            queue,
+            ..
         } = passed;
-        let is_left_over = span.is_some_and(|span| last < span.first);
-        let kind = if is_left_over {
-            Kind::LeftOver
-        } else {
-            Kind::Passed
+        let files = found.files.get(..found.passed).unwrap_or(&[]);
+        let (kind, why) = match known {
+            Some(known) if are_all_in(files, &known.left_over) => (
+                Kind::LeftOver,
+                format!(in self.alloc;
+                    "a purge had dropped them: the log begins with number {}",
+                    known.first
+                )?,
+            ),
+            Some(known) => (
+                Kind::Passed,
+                format!(in self.alloc;
+                    "number {missing} is missing after them, and the log had numbers {} to {}",
+                    known.first, known.last
+                )?,
+            ),
+            None => (
+                Kind::Passed,
+                format!(in self.alloc; "number {missing} is missing after them; {UNKNOWN}")?,
+            ),
         };
-        let why = match span {
-            Some(span) if is_left_over => format!(in self.alloc;
-                "a purge had dropped them: the log begins with number {}",
-                span.first
-            )?,
-            Some(span) => format!(in self.alloc;
-                "number {missing} is missing after them, and the log had numbers {} to {}",
-                span.first, span.last
-            )?,
-            None => format!(in self.alloc; "number {missing} is missing after them; {UNKNOWN}")?,
-        };
-        let name = queue_name(queue);
+        let name = queue_name(passed.queue);
         Ok(Item {
             kind,
             path: String::from_str(self.alloc, path_of(found, first))?,
-            files,
+            files: passed.files,
             at: 0,
-            bytes,
+            bytes: passed.bytes,
             cause: format!(in self.alloc; "numbers {first} to {last} of queue {name}: {why}")?,
             mend: self.mend_of_passed(plan)?,
         })
@@ -229,38 +243,37 @@ impl Planner<'_> {
         self.raftctl("repair --cut")
     }
 
-    /// The numbers of a queue that the note lists and that no file has.
+    /// The numbers of a queue that are needed and that no file has. `spill` is the second folder of
+    /// the log when it was last written.
     pub fn add_missing(
         &self,
-        span: Span,
-        files: &[LogFile],
+        queue: LogQueue,
+        known: &Known,
+        spill: &str,
         plan: &mut Plan,
     ) -> Result<(), AllocError> {
-        let mut found = 0u64;
-        for file in files {
-            let is_listed = span.first <= file.id.seq && file.id.seq <= span.last;
-            if file.id.queue == span.queue && is_listed {
-                found = found.saturating_add(1);
-            }
+        let name = queue_name(queue);
+        for (first, last) in &known.missing {
+            let mend = if spill.is_empty() || self.spill.is_some() {
+                String::new(self.alloc)
+            } else {
+                self.spill_option(spill)?
+            };
+            plan.items.push(Item {
+                kind: Kind::Missing,
+                path: String::from_str(self.alloc, name)?,
+                files: last.saturating_sub(*first).saturating_add(1),
+                at: 0,
+                bytes: 0,
+                cause: format!(in self.alloc;
+                    "the log had numbers {} to {} of queue {name}, and {first} to {last} are gone, \
+                    or in a folder that is not read: restore the files",
+                    known.first, known.last
+                )?,
+                mend,
+            })?;
         }
-        let listed = span.last.saturating_sub(span.first).saturating_add(1);
-        if span.last < span.first || listed <= found {
-            return Ok(());
-        }
-        let name = queue_name(span.queue);
-        plan.items.push(Item {
-            kind: Kind::Missing,
-            path: String::from_str(self.alloc, name)?,
-            files: listed.saturating_sub(found),
-            at: 0,
-            bytes: 0,
-            cause: format!(in self.alloc;
-                "the log had numbers {} to {} of queue {name}: some are gone, or in a folder that \
-                is not read; restore the files",
-                span.first, span.last
-            )?,
-            mend: String::new(self.alloc),
-        })
+        Ok(())
     }
 }
 
@@ -273,6 +286,16 @@ pub fn may_be_stray(found: &QueueFiles) -> bool {
         }
     }
     found.passed().is_some()
+}
+
+// Whether the numbers of all files, if there are any, are among these.
+fn are_all_in(files: &[LogFile], numbers: &[u64]) -> bool {
+    for file in files {
+        if !numbers.contains(&file.id.seq) {
+            return false;
+        }
+    }
+    !files.is_empty()
 }
 
 // The path of the file of a number.
