@@ -71,7 +71,7 @@ impl Folder {
         };
         self.add_refused(options, &mut plan)?;
         if !reads_reserved(options) {
-            self.add_reserved(&mut plan)?;
+            self.add_deleted(&mut plan)?;
         }
         Ok(Some(plan))
     }
@@ -163,7 +163,7 @@ impl Folder {
         Ok(())
     }
 
-    fn add_reserved(&self, plan: &mut Plan) -> Result<()> {
+    fn add_deleted(&self, plan: &mut Plan) -> Result<()> {
         let Some(first) = self.reserved.first() else {
             return Ok(());
         };
