@@ -283,7 +283,7 @@ fn move_aside<F: FileSystem + ChangedFiles>(
     };
     let len = fs::metadata(rt, format!(in alloc; "{}/{path}", request.folder)?.as_str())?.len();
     if let Err(fault) = files.rename(path, kept.as_str()) {
-        files.tell_refusal(rt)?;
+        files.tell_refusal(rt, request.options.json)?;
         let fault = fault.with_path(alloc, path);
         let text = format!(in alloc; "a file cannot be moved aside to {kept}")?;
         return Err(failure(text.as_str(), &fault));

@@ -128,14 +128,14 @@ fn change_log<R: Threads + Sync, F: FileSystem + ChangedFiles + Drop>(
     match work_on(rt, &mut engine, request, material, out) {
         Ok(status) => {
             if request.sync {
-                close(rt, engine)?;
+                close(rt, engine, request.options.json)?;
             } else {
                 engine.give_up();
             }
             Ok(status)
         }
         Err(error) => {
-            engine.give_up().tell_refusal(rt)?;
+            engine.give_up().tell_refusal(rt, request.options.json)?;
             Err(error)
         }
     }

@@ -78,7 +78,7 @@ fn copy_or_tell(
 ) -> Result<()> {
     let copied = copy_all(rt, source, copies, files, request);
     if copied.is_err() {
-        tell_refusal(&rt, files)?;
+        tell_refusal(&rt, files, request.options.json)?;
     }
     copied
 }
