@@ -89,7 +89,7 @@ fn survey_files<F: FileSystem>(
         Err(fault) => return Err(failure("the files cannot be checked", &fault)),
     };
     let folder = Folder::open(*rt, request.folder, options)?;
-    let mut progress = Progress::new(*rt, options.quiet)?;
+    let mut progress = Progress::of(*rt, options)?;
     // The files of a folder that is opened are known to be allowed.
     let plan = if options.changing.dry_run {
         folder.whole_plan(&queues, options, &mut progress)?

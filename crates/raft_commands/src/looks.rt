@@ -41,7 +41,7 @@ pub fn look<R: Threads + Sync>(
     request: &Request<'_>,
     look: Look<'_>,
 ) -> Result<Status> {
-    let mut progress = Progress::new(rt, request.options.quiet)?;
+    let mut progress = Progress::of(rt, &request.options)?;
     let mut out = Output::new(rt, &request.options);
     for _ in 0..TRIES {
         let looked = look_once(rt, threads, request, look, &mut progress, &mut out)?;
@@ -209,7 +209,7 @@ fn find<F: FileSystem>(
         Look::Entry(group, index) => entries::get(engine, group, index, out),
         Look::Entries(group, range) => entries::list(rt.alloc(), engine, group, range, out),
         Look::Groups => entries::groups(engine, out),
-        Look::Verify(load) => numbered::verify(rt, engine, load, options.quiet, out),
+        Look::Verify(load) => numbered::verify(rt, engine, load, options, out),
         Look::Sum(group, indexes) => {
             sum(rt.alloc(), engine, group, indexes, out)?;
             Ok(true)

@@ -22,7 +22,7 @@ pub(crate) fn load<F: FileSystem>(
     options: &Options<'_>,
 ) -> Result<()> {
     let start = Instant::now(rt)?;
-    let mut progress = Progress::new(*rt, options.quiet)?;
+    let mut progress = Progress::of(*rt, options)?;
     for number in 0..load.count {
         progress.at("keys", number, load.count)?;
         put_next(rt, engine, number, load, options.json)?;
@@ -88,10 +88,10 @@ pub(crate) fn verify<F: FileSystem>(
     rt: &HostRuntime,
     engine: &Engine<F>,
     load: Load,
-    quiet: bool,
+    options: &Options<'_>,
     out: &mut Output,
 ) -> Result<bool> {
-    let mut progress = Progress::new(*rt, quiet)?;
+    let mut progress = Progress::of(*rt, options)?;
     let mut standing = 0u64;
     let mut after = 0u64;
     let mut wrong = 0u64;

@@ -24,7 +24,7 @@ pub(crate) fn purge<R: Threads + Sync, F: FileSystem + ChangedFiles + Drop>(
     out: &mut Output,
 ) -> Result<Status> {
     let alloc = rt.alloc();
-    let mut progress = Progress::new(*rt, options.quiet)?;
+    let mut progress = Progress::of(*rt, options)?;
     let before = find(alloc, &mut files, options)?;
     progress.begin("the log is being opened")?;
     let engine = open(rt, threads, files, options)?;

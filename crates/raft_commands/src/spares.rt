@@ -52,7 +52,7 @@ fn make_all<F: FileSystem + ChangedFiles>(
         {bytes} bytes in all"
     );
     note_made(rt, options, text)?;
-    let mut progress = Progress::new(*rt, options.quiet)?;
+    let mut progress = Progress::of(*rt, options)?;
     make_spill(rt, files, &wanted.config, options.json)?;
     for place in wanted.found..wanted.count {
         let done = place.saturating_sub(wanted.found) as u64;

@@ -70,7 +70,7 @@ fn change_image<R: Threads + Sync>(
     material: &mut Material<'_>,
 ) -> Result<Status> {
     let folder = Folder::open(rt, request.folder, &request.options)?;
-    let mut progress = Progress::new(rt, request.options.quiet)?;
+    let mut progress = Progress::of(rt, &request.options)?;
     match folder.image(&mut progress)? {
         Some(image) => change_files(&rt, threads, image, request, material),
         None => Err(anyhow!(

@@ -58,7 +58,7 @@ fn fork_source(
 // Tells the plan of an opening of the source, and returns what `check` of it ends with.
 fn status_of_source(rt: HostRuntime, request: &Request<'_>) -> Result<Status> {
     let folder = Folder::open(rt, request.folder, &request.options)?;
-    let mut progress = Progress::new(rt, request.options.quiet)?;
+    let mut progress = Progress::of(rt, &request.options)?;
     match folder.plan(&request.options, &mut progress)? {
         Some(plan) => {
             plan.tell(&rt, &request.options)?;
@@ -148,7 +148,7 @@ fn copy_all<F: FileSystem>(
     files: &mut F,
     request: &Request<'_>,
 ) -> Result<()> {
-    let mut progress = Progress::new(rt, request.options.quiet)?;
+    let mut progress = Progress::of(rt, &request.options)?;
     let mut out = Output::new(rt, &request.options);
     done(rt.alloc(), FORK_MARK, put_file(files, FORK_MARK, &[]))?;
     for (place, copy) in copies.iter().enumerate() {
