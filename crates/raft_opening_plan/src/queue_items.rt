@@ -229,12 +229,15 @@ impl Planner<'_> {
             at: 0,
             bytes: passed.bytes,
             cause: format!(in self.alloc; "numbers {first} to {last} of queue {name}: {why}")?,
-            mend: self.mend_of_passed(plan)?,
+            mend: self.mend_of_passed(kind, plan)?,
         })
     }
 
     // A folder that is left out may have the missing number.
-    fn mend_of_passed(&self, plan: &Plan) -> Result<String, AllocError> {
+    fn mend_of_passed(&self, kind: Kind, plan: &Plan) -> Result<String, AllocError> {
+        if kind == Kind::LeftOver {
+            return self.raftctl("repair");
+        }
         for item in &plan.items {
             if item.kind == Kind::Folder {
                 return item.mend.clone();
