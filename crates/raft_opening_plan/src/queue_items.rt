@@ -143,10 +143,10 @@ impl Planner<'_> {
         if found.is_doubled() {
             return Ok(());
         }
-        let is_known_stray = known.is_some_and(|known| are_all_in(
-            found.kept_files(),
-            &known.strays,
-        ));
+        let is_known_stray = match known {
+            Some(known) => are_all_in(found.kept_files(), &known.strays),
+            None => false,
+        };
         if is_stray || is_known_stray {
             return self.add_strays(found, passed, is_stray, plan);
         }
