@@ -203,7 +203,7 @@ class Plans:
 
     def strays(self):
         """`repair --cut` moves a stray aside, and never the log that it hides; several and long ones too."""
-        for name, numbers, data in [("one", [9], b"hello"), ("none", [9], b""), ("zeros", [9], b"\0" * 5000)]:
+        for name, numbers, data in [("one", [9], b"hello"), ("none", [9], b""), ("zeros", [9], b"\0" * 5000), ("two", [9, 10], b"hello")]:
             folder = self.with_stray(os.path.join(self.work, f"stray-{name}"))
             for number in numbers:
                 with open(os.path.join(folder, name_of(number)), "wb") as file:

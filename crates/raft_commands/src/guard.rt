@@ -55,13 +55,15 @@ pub(crate) fn guard<F: FileSystem + ChangedFiles>(
     request: &Request<'_>,
 ) -> Result<Option<Vec<Taken>>> {
     let survey = survey_files(rt, files, request)?;
-    if let Some(item) = survey.plan.failing() {
-        survey.plan.tell(rt, &request.options)?;
-        return Err(failing(rt.alloc(), files, item, request));
-    }
-    if is_refused(&survey.plan, request) {
-        survey.plan.tell(rt, &request.options)?;
-        return refuse(rt, request);
+    if !moves_strays(&survey.plan, request) {
+        if let Some(item) = survey.plan.failing() {
+            survey.plan.tell(rt, &request.options)?;
+            return Err(failing(rt.alloc(), files, item, request));
+        }
+        if is_refused(&survey.plan, request) {
+            survey.plan.tell(rt, &request.options)?;
+            return refuse(rt, request);
+        }
     }
     if !request.options.quiet {
         survey.plan.tell(rt, &request.options)?;
@@ -151,6 +153,12 @@ fn refuse(rt: &HostRuntime, request: &Request<'_>) -> Result<Option<Vec<Taken>>>
     Ok(None)
 }
 
+// Whether strays are to be moved aside, after which the opening may do something else.
+fn moves_strays(plan: &Plan, request: &Request<'_>) -> bool {
+    let is_repair = matches!(&request.verb, Verb::Repair);
+    is_repair && request.options.changing.cut && plan.has(Kind::Stray)
+}
+
 // Keeps what is cut off. A repair moves strays aside first, and then what is still passed over.
 fn take<F: FileSystem + ChangedFiles>(
     rt: &HostRuntime,
@@ -159,20 +167,24 @@ fn take<F: FileSystem + ChangedFiles>(
     request: &Request<'_>,
     taken: &mut Vec<Taken>,
 ) -> Result<()> {
-    files.delete_unread(rt)?;
-    if !matches!(&request.verb, Verb::Repair) {
-        return take_cuts(rt, files, &survey.queues, request, taken);
-    }
     let mut survey = survey;
     for _ in 0..MOST_STRAYS {
-        if !survey.plan.has(Kind::Stray) {
+        if !moves_strays(&survey.plan, request) {
             break;
         }
         move_strays(rt, files, &survey.plan, request, taken)?;
         survey = survey_files(rt, files, request)?;
     }
+    if let Some(item) = survey.plan.failing() {
+        survey.plan.tell(rt, &request.options)?;
+        return Err(failing(rt.alloc(), files, item, request));
+    }
+    files.delete_unread(rt)?;
     take_cuts(rt, files, &survey.queues, request, taken)?;
-    move_passed(rt, files, &survey.queues, request, taken)
+    if let Verb::Repair = &request.verb {
+        move_passed(rt, files, &survey.queues, request, taken)?;
+    }
+    Ok(())
 }
 
 fn take_cuts<F: FileSystem>(
