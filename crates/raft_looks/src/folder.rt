@@ -7,7 +7,7 @@ use anyhow::{Result, bail};
 use raft_command_line::Options;
 use raft_config::RecoveryMode;
 use raft_console::Progress;
-use raft_disk::{FolderView, image_of};
+use raft_disk::{FolderView, SpanNote, image_of};
 use raft_dump::{FileCheck, LogFile, check_file, log_file, log_files};
 use raft_env::FileSystem;
 use raft_files::FileNameExt;
@@ -31,6 +31,8 @@ pub struct Folder {
     pub(crate) view: FolderView,
     /// The second folder, if the options name one.
     pub(crate) spill: Option<String>,
+    /// The note of the numbers that the log's files have had.
+    pub(crate) note: Option<SpanNote>,
     pub files: Vec<LogFile>,
     /// The files that are kept to be used as next log files, and hold no record.
     pub reserved: Vec<ReservedFile>,
@@ -47,6 +49,7 @@ impl Drop for Folder {
             path: _path,
             view: _view,
             spill: _spill,
+            note: _note,
             files: _files,
             reserved: _reserved,
             others: _others,
@@ -75,6 +78,7 @@ impl Folder {
             path: String::from_str(alloc, path)?,
             view,
             spill: None,
+            note: None,
             files: Vec::new(alloc),
             reserved: Vec::new(alloc),
             others: Vec::new(alloc),
@@ -84,12 +88,13 @@ impl Folder {
     }
 
     fn add_all(&mut self, spill: Option<&str>) -> Result<()> {
+        let note = self.note_now()?;
         self.add("")?;
         if let Some(spill) = spill {
             self.add_second(spill)?;
             self.spill = Some(String::from_str(self.alloc, spill)?);
         }
-        Ok(())
+        self.read_note(note)
     }
 
     fn add(&mut self, folder: &str) -> Result<()> {

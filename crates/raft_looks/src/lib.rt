@@ -8,6 +8,7 @@ mod faults;
 mod folder;
 mod hindrances;
 mod left_out;
+mod note;
 mod planning;
 mod reserved;
 mod source;

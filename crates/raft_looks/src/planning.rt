@@ -10,7 +10,7 @@ use raft_command_line::Options;
 use raft_config::RecoveryMode;
 use raft_console::Progress;
 use raft_inspect::{Behind, BehindSearch, Cut, QueueFiles, cuts_of, search_behind};
-use raft_opening_plan::{Known, Plan, Planner, may_be_stray};
+use raft_opening_plan::{Plan, Planner, may_be_stray};
 use raft_records::{Fault, LogQueue};
 
 /// How many places are searched before progress is reported.
@@ -93,7 +93,7 @@ impl Folder {
         self.add_unread(planner, &mut plan)?;
         for found in [&queues.append, &queues.rewrite] {
             let is_stray = self.are_stray(found)?;
-            let known = self.known(found.queue);
+            let known = self.known(found.queue)?;
             planner.add_passed(found, is_stray, known.as_ref(), &mut plan)?;
             if !fails && !is_stray && !self.add_cuts(planner, found, progress, &mut plan)? {
                 return Ok(None);
@@ -116,7 +116,7 @@ impl Folder {
                 return Ok(None);
             };
             let is_stray = self.are_stray(&found)?;
-            let known = self.known(*queue);
+            let known = self.known(*queue)?;
             planner.add_passed(&found, is_stray, known.as_ref(), &mut plan)?;
         }
         Ok(Some(plan))
@@ -129,11 +129,6 @@ impl Folder {
         Ok(plan)
     }
 
-    // What the note of spans says of a queue.
-    fn known(&self, _queue: LogQueue) -> Option<Known> {
-        None
-    }
-
     fn add_unread(&self, planner: Planner<'_>, plan: &mut Plan) -> Result<()> {
         let read = ReadFiles {
             rt: self.rt,
@@ -141,10 +136,17 @@ impl Folder {
             view: &self.view,
             files: &self.files,
         };
+        if self.is_known_whole()? {
+            return Ok(());
+        }
         read.add_left_out(plan)?;
+        let spill = match &self.note {
+            Some(note) => note.spans.spill.as_str(),
+            None => "",
+        };
         for queue in &[LogQueue::Append, LogQueue::Rewrite] {
-            if let Some(known) = self.known(*queue) {
-                planner.add_missing(*queue, &known, "", plan)?;
+            if let Some(known) = self.known(*queue)? {
+                planner.add_missing(*queue, &known, spill, plan)?;
             }
         }
         Ok(())
