@@ -33,6 +33,10 @@ class Plans:
         self.run(folder, "load", 60, 40, "--settings", settings)
         return folder, settings
 
+    def without_note(self, folder):
+        """What an opening knows by the names alone."""
+        os.unlink(os.path.join(folder, "SPANS"))
+
     def plans(self):
         """Each kind of item: its statuses, the same lines from each command, and what its command mends."""
         os.mkdir(os.path.join(self.work, "bin"))
@@ -200,6 +204,53 @@ class Plans:
         with open(os.path.join(folder, name_of(1, "raftlog.reserved")), "wb") as file:
             file.write(b"\0" * 100)
         return folder
+
+    def noted(self):
+        """What `SPANS` makes known: the last file gone, all files, a stray with a header; and what a killed close leaves."""
+        for case, gone, kinds in [
+            ("last", lambda names: [max(name for name in names if name.endswith(".raftlog"))], {"missing"}),
+            ("all", lambda names: names, {"missing"}),
+            ("none", lambda names: [], set()),
+        ]:
+            folder, _ = self.numbered(f"noted-{case}")
+            for name in gone(logs_in(folder)):
+                os.unlink(os.path.join(folder, name))
+            ran = self.run(folder, "check")
+            found = {line.split()[1] for line in lines_of(ran.stdout)}
+            self.expect(f"noted, {case} gone: {ran.stdout}", found == kinds and ran.returncode == (6 if kinds else 0))
+            ran = self.run(folder, "put", 1, "a", "b")
+            told = {line.split()[1] for line in lines_of(ran.stderr)}
+            self.expect(f"noted, {case} gone: a put: {ran.stderr}", ran.returncode == 0 and told == kinds)
+        folder, _ = self.numbered("noted-stray")
+        last = max(int(name[:16]) for name in logs_in(folder) if name.endswith(".raftlog"))
+        stray = os.path.join(folder, name_of(last + 5))
+        shutil.copy(os.path.join(folder, name_of(1, "rewrite")), stray)
+        ran = self.run(folder, "repair", "--cut")
+        self.expect(f"a stray with a header: {ran.stderr}", ran.returncode == 0 and os.path.exists(stray + ".stray"))
+        self.expect("then all is there", self.run(folder, "check").returncode == 0)
+
+    def killed_closes(self):
+        """B2 of the review: a kill at any call of a rewriting refuses no later change."""
+        base = os.path.join(self.work, "close-base")
+        settings = os.path.join(self.work, "recycling.toml")
+        with open(settings, "w", encoding="ascii") as file:
+            file.write('target-file-size = "1KB"\npurge-threshold = "8KB"\n')
+        self.run(base, "load", 60, 40, "--settings", settings)
+        left = 0
+        for call in range(1, 1000):
+            folder = os.path.join(self.work, "close-killed")
+            shutil.copytree(base, folder)
+            ran = self.run(folder, "rewrite", "append", "--settings", settings, env=self.calling(KILL=str(call)))
+            checked = self.run(folder, "check")
+            left += b"plan left-over" in checked.stdout
+            self.expect(f"call {call}: check: {checked.stdout}", checked.returncode in (0, 4))
+            put = self.run(folder, "put", 1, "a", "b")
+            self.expect(f"call {call}: a put: {put.stderr}", put.returncode == 0)
+            self.expect(f"call {call}: a key", self.run(folder, "get", 1, 5).returncode == 0)
+            shutil.rmtree(folder)
+            if ran.returncode == 0:
+                break
+        self.expect(f"a killed close leaves files: {left} of {call}", left > 0)
 
     def strays(self):
         """`repair --cut` moves a stray aside, and never the log that it hides; several and long ones too."""

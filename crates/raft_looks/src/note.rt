@@ -54,15 +54,4 @@ impl Folder {
             left_over: report.left_over,
         }))
     }
-
-    /// Whether the note knows each file that is needed, and all of them exist.
-    pub(crate) fn is_known_whole(&self) -> Result<bool> {
-        for queue in &[LogQueue::Append, LogQueue::Rewrite] {
-            match self.known(*queue)? {
-                Some(known) if known.missing.is_empty() && known.strays.is_empty() => {}
-                _ => return Ok(false),
-            }
-        }
-        Ok(true)
-    }
 }

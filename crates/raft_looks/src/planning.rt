@@ -136,9 +136,6 @@ impl Folder {
             view: &self.view,
             files: &self.files,
         };
-        if self.is_known_whole()? {
-            return Ok(());
-        }
         read.add_left_out(plan)?;
         let spill = match &self.note {
             Some(note) => note.spans.spill.as_str(),
