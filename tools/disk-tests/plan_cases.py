@@ -252,6 +252,26 @@ class Plans:
                 break
         self.expect(f"a killed close leaves files: {left} of {call}", left > 0)
 
+    def other_file_system(self):
+        """B1 of the review: a purge that recycles, with a second folder on another file system."""
+        folder, settings = self.numbered("other-disk")
+        second = os.path.join(folder, "second")
+        os.mkdir(second)
+        if subprocess.run(["mount", "-t", "tmpfs", "none", second], capture_output=True).returncode != 0:
+            print("not tried: a second folder on another file system (no right to mount)")
+            return
+        try:
+            for name in sorted(name for name in logs_in(folder) if name.endswith(".raftlog"))[:2]:
+                shutil.move(os.path.join(folder, name), second)
+            settings = os.path.join(self.work, "recycling-two.toml")
+            with open(settings, "w", encoding="ascii") as file:
+                file.write('target-file-size = "1KB"\npurge-threshold = "8KB"\nspill-dir = "second"\n')
+            for words in ("rewrite append", "put 1 a b", "get 1 5", "check"):
+                ran = self.run(folder, *words.split(), "--settings", settings)
+                self.expect(f"{words} beside another disk: {ran.returncode} {ran.stderr}", ran.returncode == 0)
+        finally:
+            subprocess.run(["umount", second], check=True)
+
     def strays(self):
         """`repair --cut` moves a stray aside, and never the log that it hides; several and long ones too."""
         for name, numbers, data in [("one", [9], b"hello"), ("none", [9], b""), ("zeros", [9], b"\0" * 5000), ("two", [9, 10], b"hello")]:
