@@ -17,6 +17,7 @@ import tempfile
 from call_cases import Calls
 from folders import add, bytes_of, flip, logs_in, numbers_in, reserved_in, state_of
 from loss_cases import Losses
+from plan_cases import Plans
 from stream_cases import Streams
 
 KEYS = 2000
@@ -37,7 +38,7 @@ WHOLE = [0, 3, 0, 0, 0, 0, 3, 0, 0, 0, 0, 0, 0, 0, 0, 0, 0, 0, 0, 0]
 BROKEN = [1, 1, 1, 1, 1, 1, 1, 1, 1, 1, 4, 4, 5, 5, 4, 1, 0, 1, 5, 1]
 
 
-class Tests(Losses, Calls, Streams):
+class Tests(Losses, Plans, Calls, Streams):
     def __init__(self, program, work):
         self.program = os.path.abspath(program)
         self.work = work
@@ -168,7 +169,7 @@ class Tests(Losses, Calls, Streams):
             # What a purge dropped may stand behind a missing number, and less than a record of an earlier
             # file behind the last record: neither can be told from a loss.
             lost = int(re.search(rb"mode tail .*bytes-lost (\d+)", checked.stdout)[1])
-            sound = 6 if b"passed-over" in checked.stdout else 4 if 0 < lost < RECORD else 0
+            sound = 6 if b"plan passed" in checked.stdout else 4 if 0 < lost < RECORD else 0
             self.expect(f"a killed writer's files are sound: {checked.stdout}", checked.returncode == sound)
             told = self.run(folder, "stat", "--settings", thresholds)
             numbers = numbers_in(told.stdout)
@@ -214,7 +215,7 @@ class Tests(Losses, Calls, Streams):
         taken = resource.getrusage(resource.RUSAGE_CHILDREN).ru_utime - begun
         self.expect(f"a search is short: {taken:.0f} s", taken < 40)
         ran = self.run(folder, "put", 1, "a", "b")
-        self.expect(f"a change is refused: {ran.stderr}", ran.returncode == 7 and b"too much to be searched" in ran.stderr)
+        self.expect(f"a change is refused: {ran.stderr}", ran.returncode == 7 and b"too much looks like records" in ran.stderr)
 
     def unread(self):
         """An opening that wants no reserved file reads none."""
@@ -409,6 +410,16 @@ def main():
         tests.passed()
         tests.left_out()
         tests.gone_queue()
+        tests.plans()
+        tests.noted()
+        tests.killed_closes()
+        tests.other_file_system()
+        tests.strays()
+        tests.copies_below()
+        tests.agreements()
+        tests.refused_openings()
+        tests.big_tails()
+        tests.indexes()
         tests.failed_changes()
         tests.broken_off()
         tests.foreseen()

@@ -26,7 +26,7 @@ class Losses:
         for words in ("put 1 a b", "del 1 5", "append 7 x", "clean 1", "purge", "rewrite append", "load 3 3"):
             ran = self.run(folder, *words.split())
             self.expect(f"{words} is refused: {ran.returncode} {ran.stderr}", ran.returncode == 7)
-            for word in (b"`check`", b"`repair`", b"`--cut`", b"whole records"):
+            for word in (b"`check`", b"`--cut`", b"whole records", b" mend raftctl "):
                 self.expect(f"{words} says {word}", word in ran.stderr)
         self.expect("a refused change changes nothing", state_of(folder) == before)
         whole = bytes_of(path)
@@ -47,7 +47,7 @@ class Losses:
         add(path, b"torn")
         ran = self.run(folder, "put", 1, "a", "b")
         kept = os.path.join(folder, f"{1:016}.raftlog.cut-{size}")
-        self.expect("a torn tail hinders no change", ran.returncode == 0 and b"broken at" in ran.stderr)
+        self.expect("a torn tail hinders no change", ran.returncode == 0 and b"plan tail" in ran.stderr and b"broken at" in ran.stderr)
         self.expect("a torn tail is kept", os.path.exists(kept) and bytes_of(kept) == b"torn")
         add(path, b"torn")
         ran = self.run(folder, "put", 1, "a", "b", "--no-keep")
@@ -91,37 +91,38 @@ class Losses:
         files = [f"{number:016}.raftlog" for number in (1, 2)]
         size = sum(os.path.getsize(os.path.join(folder, name)) for name in files)
         os.rename(gone, os.path.join(self.work, "gone"))
-        self.passes(folder, f"files 2 bytes {size} first 1 last 2 missing 3")
+        self.passes(folder, f"files 2 at 0 bytes {size}", "numbers 1 to 2 of queue append: number 3 is missing")
         os.rename(os.path.join(self.work, "gone"), gone)
         self.expect("with the file all is there", self.run(folder, "check").returncode == 0)
         os.mkdir(os.path.join(folder, "second"))
         os.rename(gone, os.path.join(folder, "second", os.path.basename(gone)))
         self.expect("with the second folder too", self.run(folder, "check", "--spill", "second").returncode == 0)
-        self.passes(folder, f"files 2 bytes {size} first 1 last 2 missing 3")
+        second = f"plan left-out path second files 1"
+        self.passes(folder, f"files 2 at 0 bytes {size}", "numbers 1 to 2 of queue append: number 3 is missing", second)
         foreign = os.path.join(self.work, "foreign")
         self.run(foreign, "load", 60, 40)
         size = os.path.getsize(os.path.join(foreign, f"{1:016}.raftlog"))
-        with open(os.path.join(foreign, f"{9:016}.raftlog"), "wb") as file:
-            file.write(b"notes")
-        self.passes(foreign, f"files 1 bytes {size} first 1 last 1 missing 2")
+        # A header alone.
+        shutil.copy(os.path.join(foreign, f"{1:016}.rewrite"), os.path.join(foreign, f"{9:016}.raftlog"))
+        self.passes(foreign, f"files 1 at 0 bytes {size}", "numbers 1 to 1 of queue append: number 2 is missing")
         ran = self.run(foreign, "repair", "--cut")
         aside = os.path.join(foreign, f"{1:016}.raftlog.passed")
         self.expect(f"a repair moves them aside: {ran.stderr}", ran.returncode == 0 and os.path.getsize(aside) == size)
         self.expect("then nothing is passed over", self.run(foreign, "check").returncode == 0)
 
-    def passes(self, folder, told):
+    def passes(self, folder, *told):
         for mode in ("absolute", "tail", "any"):
             ran = self.run(folder, "check", "--mode", mode)
             wanted = 6 if b"rest broken" not in ran.stdout or mode != "absolute" else 5
             self.expect(f"{folder}: check in {mode}: {ran.returncode}", ran.returncode == wanted)
-            self.expect(f"{folder}: {told}: {ran.stdout}", told.encode() in ran.stdout)
+            self.expect(f"{folder}: {told}: {ran.stdout}", all(each.encode() in ran.stdout for each in told))
         for words in ("get 1 none", "list", "stat", "dump", "groups", "consistency", "entries 7"):
             ran = self.run(folder, *words.split())
-            self.expect(f"{folder}: {words} tells it: {ran.stderr}", b"passed over" in ran.stderr)
+            self.expect(f"{folder}: {words} tells it: {ran.stderr}", b"plan passed" in ran.stderr)
         before = state_of(folder)
         for words in ("put 1 a b", "purge", "repair"):
             ran = self.run(folder, *words.split())
-            self.expect(f"{folder}: {words} is refused", ran.returncode == 7 and b"can't be told" in ran.stderr)
+            self.expect(f"{folder}: {words} is refused", ran.returncode == 7 and b"cannot be known" in ran.stderr)
         self.expect(f"{folder}: nothing is done", state_of(folder) == before)
 
     def left_out(self):
@@ -132,7 +133,7 @@ class Losses:
         for name in (min(logs_in(folder)), max(logs_in(folder))):
             size = os.path.getsize(os.path.join(folder, name))
             os.rename(os.path.join(folder, name), os.path.join(second, name))
-            self.leaves_out(folder, f"left-out second files 1 bytes {size}\n")
+            self.leaves_out(folder, f"plan left-out path second files 1 at 0 bytes {size} ")
             self.expect(f"{name}: with it all is there", self.run(folder, "check", "--spill", "second").returncode == 0)
             os.rename(os.path.join(second, name), os.path.join(folder, name))
         with open(os.path.join(second, min(logs_in(folder))), "wb") as file:
@@ -152,10 +153,10 @@ class Losses:
         copy = os.path.join(self.work, f"left-{len(os.listdir(self.work))}")
         for words in ("get 1 5", "list", "stat", "dump", "groups", "consistency", "entries 7", f"fork {copy}"):
             ran = self.run(folder, *words.split())
-            self.expect(f"{words} tells it: {ran.stderr}", b"`--spill second`" in ran.stderr)
+            self.expect(f"{words} tells it: {ran.stderr}", b"mend --spill second" in ran.stderr)
         for words in ("put 1 a b", "purge", "repair"):
             ran = self.run(folder, *words.split())
-            told = ran.returncode == 7 and b"`--spill second`" in ran.stderr
+            told = ran.returncode == 7 and b"mend --spill second" in ran.stderr
             self.expect(f"{words} is refused: {ran.stderr}", told)
         self.expect(f"{folder}: nothing is done", state_of(folder) == before)
 
@@ -168,7 +169,7 @@ class Losses:
                 os.unlink(os.path.join(folder, name))
         before = state_of(folder)
         ran = self.run(folder, "check")
-        self.expect(f"check tells it: {ran.stdout}", ran.returncode == 6 and b"queue rewrite files 0" in ran.stdout)
+        self.expect(f"check tells it: {ran.stdout}", ran.returncode == 6 and b"plan gone path rewrite files 0" in ran.stdout)
         for words in ("get 1 5", "list", "stat", "dump", "consistency"):
             ran = self.run(folder, *words.split())
             self.expect(f"{words} tells it: {ran.stderr}", b"queue rewrite has no file" in ran.stderr)

@@ -4,20 +4,20 @@ use anyhow::Result;
 use raft_disk::DiskFileSystem;
 use raft_looks::{tell_refusal, told};
 use raft_memory::MemoryFileSystem;
-use std::io;
 
 /// Files whose system can be asked what it refused.
 pub(crate) trait ChangedFiles {
     /// Tells on standard error which call the system refused last, and why.
-    fn tell_refusal(&self, rt: &HostRuntime) -> io::Result<()>;
+    /// With `json` it is an object.
+    fn tell_refusal(&self, rt: &HostRuntime, json: bool) -> Result<()>;
 
     /// Deletes the reserved files that weren't read, since the opening doesn't want them.
     fn delete_unread(&self, rt: &HostRuntime) -> Result<()>;
 }
 
 impl ChangedFiles for DiskFileSystem {
-    fn tell_refusal(&self, rt: &HostRuntime) -> io::Result<()> {
-        tell_refusal(rt, self)
+    fn tell_refusal(&self, rt: &HostRuntime, json: bool) -> Result<()> {
+        tell_refusal(rt, self, json)
     }
 
     fn delete_unread(&self, rt: &HostRuntime) -> Result<()> {
@@ -29,7 +29,7 @@ impl ChangedFiles for DiskFileSystem {
 }
 
 impl ChangedFiles for MemoryFileSystem {
-    fn tell_refusal(&self, _rt: &HostRuntime) -> io::Result<()> {
+    fn tell_refusal(&self, _rt: &HostRuntime, _json: bool) -> Result<()> {
         Ok(())
     }
 

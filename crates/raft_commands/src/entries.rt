@@ -3,8 +3,8 @@ use crate::changes::{Change, write};
 use crate::lines::Run;
 use anyhow::{Result, anyhow};
 use raft_c_batch::Entry;
-use raft_command_line::Indexes;
-use raft_console::{Output, failure};
+use raft_command_line::{Indexes, Options};
+use raft_console::{Output, failure, note_made};
 use raft_env::FileSystem;
 use raft_inspect::Word;
 use raft_log_engine::Engine;
@@ -51,7 +51,7 @@ fn append_run<F: FileSystem>(
     }
     let first = run.first.unwrap_or(behind(engine.last_index(group), 1));
     if let Err(fault) = append_from(alloc, engine, group, first, &run.values, sync) {
-        return Err(failure("the entries cannot be appended", &fault));
+        return Err(unappended(engine, group, first, &fault));
     }
     let last = engine.last_index(group).unwrap_or(first);
     let (first, last) = (("first", Word::Number(first)), ("last", Word::Number(last)));
@@ -59,6 +59,24 @@ fn append_run<F: FileSystem>(
         return out.line(&[("group", Word::Number(group)), first, last]);
     }
     out.line(&[first, last])
+}
+
+// Why entries from an index on cannot be appended.
+fn unappended<F: FileSystem>(
+    engine: &Engine<F>,
+    group: u64,
+    first: u64,
+    fault: &Fault,
+) -> anyhow::Error {
+    let what = "the entries cannot be appended";
+    match (fault, engine.first_index(group), engine.last_index(group)) {
+        (Fault::Gap, Some(from), Some(last)) => anyhow!(
+            "index {first} leaves a gap: group {group} takes an index from {from} to {}",
+            last.saturating_add(1)
+        )
+        .context(what),
+        _ => failure(what, fault),
+    }
 }
 
 // Writes batches of entries, and syncs with the last.
@@ -177,6 +195,24 @@ pub(crate) fn compact<F: FileSystem>(
         Ok(count) => out.line(&[("dropped", Word::Number(count))]),
         Err(fault) => Err(failure("the group cannot be compacted", &fault)),
     }
+}
+
+/// Tells where the next entry gets its index, if the group has none left.
+pub(crate) fn note_emptied<F: FileSystem>(
+    rt: &HostRuntime,
+    engine: &Engine<F>,
+    group: u64,
+    index: u64,
+    options: &Options<'_>,
+) -> Result<()> {
+    if engine.last_index(group).is_some() {
+        return Ok(());
+    }
+    let text = format!(in rt.alloc();
+        "group {group} has no entry: `append {group} VALUE` begins with index 1, and \
+        `append {group} VALUE --at {index}` with {index}"
+    );
+    note_made(rt, options, text)
 }
 
 fn compacted<F: FileSystem>(

@@ -2,31 +2,29 @@
 
 use crate::changed::ChangedFiles;
 use crate::kept::{free_name, keep};
-use crate::opening::config;
+use crate::opening::broken;
 use anyhow::{Result, anyhow};
 use raft_command_line::{Request, Verb};
-use raft_console::{failure, note_made, tell};
-use raft_dump::log_files;
+use raft_console::{Progress, failure, note_made, tell};
 use raft_env::FileSystem;
-use raft_inspect::{Cut, Losses, Passed, Unexplained, queue_name};
-use raft_looks::{Folder, LeftOut};
-use raft_records::{Fault, FileId};
+use raft_inspect::{Cut, QueueFiles, cuts_of, inspect};
+use raft_looks::{BothQueues, Folder};
+use raft_opening_plan::{Change, Item, Kind, Plan, Row};
+use raft_records::{Fault, LogQueue};
 use std::alloc::{AllocError, Global};
 use std::{fs, io};
 
-/// Why files may be passed over.
-const UNTOLD: &str = "a purge that was killed may have left them, or a file or a second folder \
-    is missing: which of these can't be told";
-
 /// What is told where a change is refused.
-const REFUSED: &str =
-    "nothing was done: `check` tells more, `salvage` reads what can be read into a \
-    new log, `repair` cuts and keeps what it cuts, `--cut` goes on";
+const REFUSED: &str = "nothing was done: the plan above says what mends it, `check` prints more, \
+    and `--cut` goes on and loses what the plan says";
 
 /// The same for a repair, which is refused for files that it doesn't cut.
 const UNREPAIRED: &str =
-    "nothing was done: `check` tells more, `salvage` reads what can be read into a \
-    new log, `repair --cut` goes on and moves aside the files that are passed over";
+    "nothing was done: the plan above says what mends it, `check` prints more, \
+    and `repair --cut` moves aside what is passed over, or a stray in its place";
+
+/// How often strays are moved aside.
+const MOST_STRAYS: u64 = 1000;
 
 /// What an opening takes out of a log file.
 #[derive(Drop)]
@@ -41,183 +39,37 @@ pub(crate) struct Taken {
     pub kept: Option<String>,
 }
 
+/// The log files before an opening, and what it does with them.
+#[derive(Drop)]
+struct Survey {
+    queues: BothQueues,
+    plan: Plan,
+}
+
 /// Finds what an opening of the request's folder loses, and keeps it in files beside; none where more
-/// is lost than an unsynced tail explains and no word allows that. Standard error tells why.
+/// is lost than an unsynced tail explains and no word allows that. Standard error has the plan. It
+/// fails, and has changed nothing, if the opening would fail.
 pub(crate) fn guard<F: FileSystem + ChangedFiles>(
     rt: &HostRuntime,
     files: &mut F,
     request: &Request<'_>,
 ) -> Result<Option<Vec<Taken>>> {
-    match found(rt.alloc(), files, request) {
-        Ok(losses) => guard_losses(rt, files, &losses, request),
-        Err(fault) => Err(failure("the files cannot be checked", &fault)),
-    }
-}
-
-fn guard_losses<F: FileSystem + ChangedFiles>(
-    rt: &HostRuntime,
-    files: &mut F,
-    losses: &Losses,
-    request: &Request<'_>,
-) -> Result<Option<Vec<Taken>>> {
-    let left_out = left_out(rt, losses, request)?;
-    match causes(rt.alloc(), files, losses, &left_out, request) {
-        Ok(causes) if causes.is_empty() => take(rt, files, losses, &left_out, request),
-        Ok(causes) => refuse(rt, &causes, request),
-        Err(fault) => Err(failure("the files cannot be checked", &fault)),
-    }
-}
-
-fn refuse(
-    rt: &HostRuntime,
-    causes: &[String],
-    request: &Request<'_>,
-) -> Result<Option<Vec<Taken>>> {
-    let folder = request.folder;
-    let json = request.options.json;
-    for cause in causes {
-        let text = format!(in rt.alloc(); "{folder}: {cause}")?;
-        tell(rt, json, "error", text.as_str())?;
-    }
-    let remedy = match &request.verb {
-        Verb::Repair => UNREPAIRED,
-        _ => REFUSED,
-    };
-    let text = format!(in rt.alloc(); "{folder}: {remedy}")?;
-    tell(rt, json, "error", text.as_str())?;
-    Ok(None)
-}
-
-// Nothing where the opening fails, which then says why.
-fn found<F: FileSystem>(
-    alloc: Global,
-    files: &mut F,
-    request: &Request<'_>,
-) -> Result<Losses, Fault> {
-    let mut losses = Losses::find(alloc, &config(alloc, &request.options)?, files)?;
-    if losses.fails {
-        losses.passed.clear();
-    }
-    Ok(losses)
-}
-
-// What of the log isn't read. The lock is held, so that this look tells of a writer.
-fn left_out(rt: &HostRuntime, losses: &Losses, request: &Request<'_>) -> Result<Vec<LeftOut>> {
-    if losses.fails {
-        return Ok(Vec::new(rt.alloc()));
-    }
-    Folder::open(*rt, request.folder, &request.options)?.left_out()
-}
-
-// Why the change is refused.
-fn causes<F: FileSystem>(
-    alloc: Global,
-    files: &mut F,
-    losses: &Losses,
-    left_out: &[LeftOut],
-    request: &Request<'_>,
-) -> Result<Vec<String>, Fault> {
-    let mut causes = Vec::new(alloc);
-    if request.options.changing.cut {
-        return Ok(causes);
-    }
-    if !matches!(&request.verb, Verb::Repair) {
-        for cut in &losses.cuts {
-            let bytes = cut.bytes(alloc, files)?;
-            if let Some(unexplained) = cut.unexplained(alloc, &bytes)? {
-                causes.push(cause_of(alloc, cut, unexplained)?)?;
-            }
+    let survey = survey_files(rt, files, request)?;
+    if !moves_strays(&survey.plan, request) {
+        if let Some(item) = survey.plan.failing() {
+            survey.plan.tell(rt, &request.options)?;
+            return Err(failing(rt.alloc(), files, item, request));
+        }
+        if is_refused(&survey.plan, request) {
+            survey.plan.tell(rt, &request.options)?;
+            return refuse(rt, request);
         }
     }
-    for passed in &losses.passed {
-        causes.push(told_of(alloc, *passed)?)?;
-    }
-    for each in left_out {
-        causes.push(told_left_out(alloc, each)?)?;
-    }
-    Ok(causes)
-}
-
-fn cause_of(alloc: Global, cut: &Cut, cause: Unexplained) -> Result<String, AllocError> {
-    let (path, offset, len) = (cut.path.as_str(), cut.offset, cut.len);
-    let why = match cause {
-        Unexplained::Records => "whole records stand in what would be cut off",
-        Unexplained::Unsearched => "what would be cut off is too much to be searched for records",
-        Unexplained::Earlier => "it isn't the last file of its queue",
-    };
-    format!(in alloc; "{path} is broken at {offset}, {len} bytes before its end: {why}")
-}
-
-/// Tells of files that an opening passes over.
-pub(crate) fn note_passed(
-    rt: &HostRuntime,
-    passed: &[Passed],
-    request: &Request<'_>,
-) -> Result<()> {
-    for each in passed {
-        note_made(rt, &request.options, told_of(rt.alloc(), *each))?;
-    }
-    Ok(())
-}
-
-/// Tells of files of the log that aren't read.
-pub fn note_left_out(rt: &HostRuntime, left_out: &[LeftOut], request: &Request<'_>) -> Result<()> {
-    for each in left_out {
-        note_made(rt, &request.options, told_left_out(rt.alloc(), each))?;
-    }
-    Ok(())
-}
-
-fn told_left_out(alloc: Global, left_out: &LeftOut) -> Result<String, AllocError> {
-    match left_out {
-        LeftOut::Folder(folder, files, bytes) => format!(in alloc;
-            "files left out: {files} in the folder {folder}, {bytes} bytes, which go on with the \
-            numbers of those that are read; `--spill {folder}` reads them too"
-        ),
-        LeftOut::Rewrite(first) => format!(in alloc;
-            "queue rewrite has no file, and each opening makes one: what was written there before \
-            queue append began with number {first} is gone, or in a folder that isn't read"
-        ),
-        LeftOut::Append(files) => format!(in alloc;
-            "queue append has no file, and each opening makes one: what was written there is gone, \
-            or in a folder that isn't read; queue rewrite has {files}"
-        ),
-    }
-}
-
-// What is told of files that an opening passes over.
-fn told_of(alloc: Global, passed: Passed) -> Result<String, AllocError> {
-    let Passed {
-        files,
-        bytes,
-        first,
-        last,
-        missing,
-        ..
-    } = passed;
-    let queue = queue_name(passed.queue);
-    format!(in alloc;
-        "files passed over: {files} of queue {queue}, numbers {first} to {last}, \
-        {bytes} bytes, since number {missing} is missing behind them; {UNTOLD}"
-    )
-}
-
-// Tells what isn't read, keeps what is cut off, and moves aside what is passed over, where that is
-// asked for.
-fn take<F: FileSystem + ChangedFiles>(
-    rt: &HostRuntime,
-    files: &mut F,
-    losses: &Losses,
-    left_out: &[LeftOut],
-    request: &Request<'_>,
-) -> Result<Option<Vec<Taken>>> {
-    note_passed(rt, &losses.passed, request)?;
-    note_left_out(rt, left_out, request)?;
-    if !losses.fails {
-        files.delete_unread(rt)?;
+    if !request.options.quiet {
+        survey.plan.tell(rt, &request.options)?;
     }
     let mut taken = Vec::new(rt.alloc());
-    match take_each(rt, files, losses, request, &mut taken) {
+    match take(rt, files, survey, request, &mut taken) {
         Ok(()) => Ok(Some(taken)),
         Err(error) => {
             give_back(rt, request, &taken)?;
@@ -227,18 +79,129 @@ fn take<F: FileSystem + ChangedFiles>(
     }
 }
 
-fn take_each<F: FileSystem + ChangedFiles>(
+// The lock is held, so that the look at the folder tells of a writer.
+fn survey_files<F: FileSystem>(
     rt: &HostRuntime,
     files: &mut F,
-    losses: &Losses,
+    request: &Request<'_>,
+) -> Result<Survey> {
+    let options = &request.options;
+    let queues = match both_queues(rt.alloc(), files, &options.folders(rt.alloc())?) {
+        Ok(queues) => queues,
+        Err(fault) => return Err(failure("the files cannot be checked", &fault)),
+    };
+    let folder = Folder::open(*rt, request.folder, options)?;
+    let mut progress = Progress::of(*rt, options)?;
+    // The files of a folder that is opened are known to be allowed.
+    let plan = if options.changing.dry_run {
+        folder.whole_plan(&queues, options, &mut progress)?
+    } else {
+        folder.plan_of(&queues, options, &mut progress)?
+    };
+    match plan {
+        Some(plan) => Ok(Survey { queues, plan }),
+        None => Err(anyhow!("a file of it was deleted meanwhile").context(request.folder)),
+    }
+}
+
+fn both_queues<F: FileSystem>(
+    alloc: Global,
+    files: &mut F,
+    folders: &[&str],
+) -> Result<BothQueues, Fault> {
+    Ok(BothQueues {
+        append: inspect(alloc, files, folders, LogQueue::Append)?,
+        rewrite: inspect(alloc, files, folders, LogQueue::Rewrite)?,
+    })
+}
+
+// Why the opening fails.
+fn failing<F: FileSystem>(
+    alloc: Global,
+    files: &mut F,
+    item: &Item,
+    request: &Request<'_>,
+) -> anyhow::Error {
+    if let (Kind::Broken, Ok(Some(said))) = (item.kind, broken(alloc, files, &request.options)) {
+        return anyhow!("{said}").context("the log cannot be opened");
+    }
+    anyhow!("{}", item.cause).context("the log cannot be opened")
+}
+
+// A repair may cut whole records off, since it keeps them.
+fn is_refused(plan: &Plan, request: &Request<'_>) -> bool {
+    if request.options.changing.cut {
+        return false;
+    }
+    let is_repair = matches!(&request.verb, Verb::Repair);
+    for item in &plan.items {
+        let Row(_, _, change) = item.kind.row();
+        if change == Change::Refused && !(is_repair && item.kind == Kind::Records) {
+            return true;
+        }
+    }
+    false
+}
+
+fn refuse(rt: &HostRuntime, request: &Request<'_>) -> Result<Option<Vec<Taken>>> {
+    let remedy = match &request.verb {
+        Verb::Repair => UNREPAIRED,
+        _ => REFUSED,
+    };
+    let text = format!(in rt.alloc(); "{}: {remedy}", request.folder)?;
+    tell(rt, request.options.json, "error", text.as_str())?;
+    Ok(None)
+}
+
+// Whether strays are to be moved aside, after which the opening may do something else.
+fn moves_strays(plan: &Plan, request: &Request<'_>) -> bool {
+    let is_repair = matches!(&request.verb, Verb::Repair);
+    is_repair && request.options.changing.cut && plan.has(Kind::Stray)
+}
+
+// Keeps what is cut off. A repair moves strays aside first, and then what is still passed over.
+fn take<F: FileSystem + ChangedFiles>(
+    rt: &HostRuntime,
+    files: &mut F,
+    survey: Survey,
     request: &Request<'_>,
     taken: &mut Vec<Taken>,
 ) -> Result<()> {
-    for cut in &losses.cuts {
-        taken.push(take_cut(rt, files, cut, request)?)?;
+    let mut survey = survey;
+    for _ in 0..MOST_STRAYS {
+        if !moves_strays(&survey.plan, request) {
+            break;
+        }
+        move_strays(rt, files, &survey.plan, request, taken)?;
+        survey = survey_files(rt, files, request)?;
     }
-    if let (Verb::Repair, false) = (&request.verb, losses.passed.is_empty()) {
-        move_aside(rt, files, losses, request, taken)?;
+    if let Some(item) = survey.plan.failing() {
+        survey.plan.tell(rt, &request.options)?;
+        return Err(failing(rt.alloc(), files, item, request));
+    }
+    files.delete_unread(rt)?;
+    take_cuts(rt, files, &survey.queues, request, taken)?;
+    if let Verb::Repair = &request.verb {
+        move_passed(rt, files, &survey.queues, request, taken)?;
+    }
+    Ok(())
+}
+
+fn take_cuts<F: FileSystem>(
+    rt: &HostRuntime,
+    files: &mut F,
+    queues: &BothQueues,
+    request: &Request<'_>,
+    taken: &mut Vec<Taken>,
+) -> Result<()> {
+    for found in [&queues.rewrite, &queues.append] {
+        let cuts = match cuts_of(rt.alloc(), found, request.options.mode) {
+            Ok(cuts) => cuts,
+            Err(fault) => return Err(failure("the files cannot be checked", &fault)),
+        };
+        for cut in &cuts {
+            taken.push(take_cut(rt, files, cut, request)?)?;
+        }
     }
     Ok(())
 }
@@ -282,69 +245,68 @@ fn keep_cut<F: FileSystem>(
     }
 }
 
-fn move_aside<F: FileSystem + ChangedFiles>(
+fn move_strays<F: FileSystem + ChangedFiles>(
     rt: &HostRuntime,
     files: &mut F,
-    losses: &Losses,
+    plan: &Plan,
     request: &Request<'_>,
     taken: &mut Vec<Taken>,
 ) -> Result<()> {
-    let alloc = rt.alloc();
-    for path in paths_passed(alloc, files, losses, request)? {
-        let kept = {
-            let name = format!(in alloc; "{path}.passed")?;
-            free_name(rt, request.folder, name.as_str())?
-        };
-        let len = fs::metadata(rt, format!(in alloc; "{}/{path}", request.folder)?.as_str())?.len();
-        if let Err(fault) = files.rename(path.as_str(), kept.as_str()) {
-            files.tell_refusal(rt)?;
-            let fault = fault.with_path(alloc, path.as_str());
-            let text = format!(in alloc; "what is passed over cannot be moved aside to {kept}")?;
-            return Err(failure(text.as_str(), &fault));
+    for item in &plan.items {
+        if item.kind == Kind::Stray {
+            let moved = move_aside(rt, files, item.path.as_str(), "stray", request)?;
+            taken.push(moved)?;
         }
-        taken.push(Taken {
-            path,
-            offset: None,
-            len,
-            stale: false,
-            kept: Some(kept),
-        })?;
     }
     Ok(())
 }
 
-// The paths of all log files that are passed over.
-fn paths_passed<F: FileSystem>(
-    alloc: Global,
+// Moves aside the files of both queues that are passed over, if one of them holds something.
+fn move_passed<F: FileSystem + ChangedFiles>(
+    rt: &HostRuntime,
     files: &mut F,
-    losses: &Losses,
+    queues: &BothQueues,
     request: &Request<'_>,
-) -> Result<Vec<String>> {
-    let mut paths = Vec::new(alloc);
-    for folder in request.options.folders(alloc)? {
-        if !files.is_dir(folder) {
+    taken: &mut Vec<Taken>,
+) -> Result<()> {
+    for found in [&queues.rewrite, &queues.append] {
+        if found.passed().is_none() {
             continue;
         }
-        let names = match files.list(folder) {
-            Ok(names) => names,
-            Err(fault) => return Err(anyhow!("{}", fault.with_path(alloc, folder))),
-        };
-        for file in log_files(alloc, folder, &names)? {
-            if is_passed(&losses.passed, file.id) {
-                paths.push(file.path)?;
-            }
+        for file in found.files.get(..found.passed).unwrap_or(&[]) {
+            let moved = move_aside(rt, files, file.path.as_str(), "passed", request)?;
+            taken.push(moved)?;
         }
     }
-    Ok(paths)
+    Ok(())
 }
 
-fn is_passed(passed: &[Passed], id: FileId) -> bool {
-    for each in passed {
-        if each.queue == id.queue && id.seq <= each.last {
-            return true;
-        }
+fn move_aside<F: FileSystem + ChangedFiles>(
+    rt: &HostRuntime,
+    files: &mut F,
+    path: &str,
+    ending: &str,
+    request: &Request<'_>,
+) -> Result<Taken> {
+    let alloc = rt.alloc();
+    let kept = {
+        let name = format!(in alloc; "{path}.{ending}")?;
+        free_name(rt, request.folder, name.as_str())?
+    };
+    let len = fs::metadata(rt, format!(in alloc; "{}/{path}", request.folder)?.as_str())?.len();
+    if let Err(fault) = files.rename(path, kept.as_str()) {
+        files.tell_refusal(rt, request.options.json)?;
+        let fault = fault.with_path(alloc, path);
+        let text = format!(in alloc; "a file cannot be moved aside to {kept}")?;
+        return Err(failure(text.as_str(), &fault));
     }
-    false
+    Ok(Taken {
+        path: String::from_str(alloc, path)?,
+        offset: None,
+        len,
+        stale: false,
+        kept: Some(kept),
+    })
 }
 
 /// Tells on standard error what an opening took out of log files.

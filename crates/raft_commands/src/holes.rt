@@ -5,7 +5,7 @@ use raft_command_line::Request;
 use raft_consistency::consistency_check_with_file_system;
 use raft_console::{Output, Progress, Status, failure, note};
 use raft_inspect::Word;
-use raft_looks::{Folder, status_of_check};
+use raft_looks::Folder;
 
 /// Prints a line for each group whose entries have a hole: it, and the last index before the first
 /// one; none where a file is there no more. An opening that tolerates all damage reads the files so.
@@ -16,6 +16,12 @@ pub(crate) fn print_holes(
     progress: &mut Progress,
     out: &mut Output,
 ) -> Result<Option<Status>> {
+    let Some(plan) = folder.plan(&request.options, progress)? else {
+        return Ok(None);
+    };
+    if !request.options.quiet {
+        plan.tell(rt, &request.options)?;
+    }
     let Some(image) = folder.image_in_one_folder(progress)? else {
         return Ok(None);
     };
@@ -28,9 +34,9 @@ pub(crate) fn print_holes(
     if !holes.is_empty() {
         note(rt, &request.options, "the entries of a group have a hole")?;
     }
-    match status_of_check(rt.alloc(), folder, &request.options, progress)? {
-        Some(Status::Done) if !holes.is_empty() => Ok(Some(Status::Absent)),
-        status => Ok(status),
+    match plan.status() {
+        Status::Done if !holes.is_empty() => Ok(Some(Status::Absent)),
+        status => Ok(Some(status)),
     }
 }
 

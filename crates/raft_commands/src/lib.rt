@@ -23,7 +23,6 @@ mod stored;
 mod waiting;
 mod writing;
 
-pub use guard::note_left_out;
 pub use looks::look;
 pub use opening::config;
 pub use writing::{change, change_by};

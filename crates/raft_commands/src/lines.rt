@@ -36,7 +36,7 @@ pub(crate) fn put_lines<F: FileSystem>(
         Ok(batches) => batches,
         Err(fault) => return Err(failure("the lines cannot be put", &fault)),
     };
-    let mut progress = Progress::new(*rt, request.options.quiet)?;
+    let mut progress = Progress::of(*rt, &request.options)?;
     write_all(engine, batches, &mut progress)?;
     if request.sync {
         return or_failure(engine.sync(), "the lines cannot be synced");

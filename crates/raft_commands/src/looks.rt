@@ -2,7 +2,6 @@
 
 use crate::absent::told_absent;
 use crate::dumps::print_items;
-use crate::guard::{note_left_out, note_passed};
 use crate::holes::print_holes;
 use crate::opening::open_image;
 use crate::pictures::print_picture;
@@ -14,7 +13,7 @@ use raft_command_line::{Look, Request};
 use raft_console::{Output, Progress, Status, bytes_of, note_made};
 use raft_contents::sum;
 use raft_env::FileSystem;
-use raft_inspect::{Cut, Passed};
+use raft_inspect::Cut;
 use raft_log_engine::Engine;
 use raft_looks::{Folder, check};
 use raft_memory::MemoryFileSystem;
@@ -42,7 +41,7 @@ pub fn look<R: Threads + Sync>(
     request: &Request<'_>,
     look: Look<'_>,
 ) -> Result<Status> {
-    let mut progress = Progress::new(rt, request.options.quiet)?;
+    let mut progress = Progress::of(rt, &request.options)?;
     let mut out = Output::new(rt, &request.options);
     for _ in 0..TRIES {
         let looked = look_once(rt, threads, request, look, &mut progress, &mut out)?;
@@ -73,10 +72,10 @@ fn look_once<R: Threads + Sync>(
     if let Look::Check = look {
         return check(rt.alloc(), &folder, &request.options, progress, out);
     }
-    note_unread(&rt, &folder, request, progress)?;
     if let Look::Consistency = look {
         return print_holes(&rt, &folder, request, progress, out);
     }
+    note_unread(&rt, &folder, request, progress)?;
     match read_all(&rt, folder, request, progress)? {
         Some(reading) => {
             progress.begin("the log is being opened in memory")?;
@@ -112,19 +111,13 @@ pub(crate) fn note_unread(
     request: &Request<'_>,
     progress: &mut Progress,
 ) -> Result<()> {
-    note_left_out(rt, &folder.left_out()?, request)?;
-    note_passed(rt, &passed_in(rt.alloc(), folder, progress)?, request)
-}
-
-// The files that an opening passes over.
-fn passed_in(alloc: Global, folder: &Folder, progress: &mut Progress) -> Result<Vec<Passed>> {
-    let mut passed = Vec::new(alloc);
-    for queue in &[LogQueue::Rewrite, LogQueue::Append] {
-        if let Some(found) = folder.passed(*queue, progress)? {
-            passed.push(found)?;
-        }
+    if request.options.quiet {
+        return Ok(());
     }
-    Ok(passed)
+    match folder.unread(&request.options, progress)? {
+        Some(plan) => Ok(plan.tell(rt, &request.options)?),
+        None => Ok(()),
+    }
 }
 
 // All log files in memory; none where one is there no more. A writer is kept out no longer.
@@ -216,7 +209,7 @@ fn find<F: FileSystem>(
         Look::Entry(group, index) => entries::get(engine, group, index, out),
         Look::Entries(group, range) => entries::list(rt.alloc(), engine, group, range, out),
         Look::Groups => entries::groups(engine, out),
-        Look::Verify(load) => numbered::verify(rt, engine, load, options.quiet, out),
+        Look::Verify(load) => numbered::verify(rt, engine, load, options, out),
         Look::Sum(group, indexes) => {
             sum(rt.alloc(), engine, group, indexes, out)?;
             Ok(true)

@@ -3,7 +3,7 @@
 use crate::changes::{Change, write};
 use anyhow::Result;
 use raft_command_line::{Load, Options};
-use raft_console::{Output, Progress, failure, print_bytes};
+use raft_console::{Output, Progress, failure, note, print_bytes};
 use raft_env::FileSystem;
 use raft_inspect::Word;
 use raft_log_engine::Engine;
@@ -22,15 +22,12 @@ pub(crate) fn load<F: FileSystem>(
     options: &Options<'_>,
 ) -> Result<()> {
     let start = Instant::now(rt)?;
-    let mut progress = Progress::new(*rt, options.quiet)?;
+    let mut progress = Progress::of(*rt, options)?;
     for number in 0..load.count {
         progress.at("keys", number, load.count)?;
         put_next(rt, engine, number, load, options.json)?;
     }
-    if options.quiet {
-        return Ok(());
-    }
-    report(rt, start, load)
+    note(rt, options, report(rt, start, load)?.as_str())
 }
 
 fn put_next<F: FileSystem>(
@@ -73,16 +70,16 @@ fn put<F: FileSystem>(
     write(alloc, engine, GROUP, Change::Put(&key, &value), sync)
 }
 
-fn report(rt: &HostRuntime, start: Instant, load: Load) -> Result<()> {
+// How fast the keys were put.
+fn report(rt: &HostRuntime, start: Instant, load: Load) -> Result<String> {
     let micros = u64::try_from(start.elapsed(rt)?.as_micros())?.max(1);
     let count = load.count;
     let rate = count.saturating_mul(1_000_000) / micros;
     let bytes = count.saturating_mul(load.size) / micros;
-    eprintln!(rt;
+    Ok(format!(in rt.alloc();
         "{count} keys in {} ms: {rate} keys/s, {bytes} MB/s",
         micros / 1000
-    )?;
-    Ok(())
+    )?)
 }
 
 /// Counts the keys that stand from 0 on, and those after the first that is missing or has another
@@ -91,10 +88,10 @@ pub(crate) fn verify<F: FileSystem>(
     rt: &HostRuntime,
     engine: &Engine<F>,
     load: Load,
-    quiet: bool,
+    options: &Options<'_>,
     out: &mut Output,
 ) -> Result<bool> {
-    let mut progress = Progress::new(*rt, quiet)?;
+    let mut progress = Progress::of(*rt, options)?;
     let mut standing = 0u64;
     let mut after = 0u64;
     let mut wrong = 0u64;
@@ -108,13 +105,11 @@ pub(crate) fn verify<F: FileSystem>(
             Err(fault) => return Err(failure("the keys cannot be read", &fault)),
         }
     }
-    for (name, count) in [
-        ("standing", standing),
-        ("after a gap", after),
-        ("wrong", wrong),
-    ] {
-        out.named(&[(name, Word::Number(count))])?;
-    }
+    out.named(&[
+        ("present", Word::Number(standing)),
+        ("after-gap", Word::Number(after)),
+        ("different", Word::Number(wrong)),
+    ])?;
     Ok(after == 0 && wrong == 0)
 }
 

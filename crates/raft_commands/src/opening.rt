@@ -61,7 +61,7 @@ fn told_refusal<F: FileSystem + ChangedFiles + Drop>(
     options: &Options<'_>,
 ) -> anyhow::Error {
     // What can't be told hides no error.
-    let _ = refused.file_system.tell_refusal(rt);
+    let _ = refused.file_system.tell_refusal(rt, options.json);
     refusal(rt.alloc(), refused, options)
 }
 
@@ -79,7 +79,7 @@ fn delete_empty<F: FileSystem + ChangedFiles>(
             continue;
         };
         if let Err(fault) = files.delete(path.as_str()) {
-            files.tell_refusal(rt)?;
+            files.tell_refusal(rt, options.json)?;
             let fault = fault.with_path(alloc, path.as_str());
             return Err(failure("an empty file cannot be deleted", &fault));
         }
@@ -124,15 +124,16 @@ pub(crate) fn open_image<R: Threads + Sync, F: FileSystem + Drop>(
     }
 }
 
-/// Hands the files back.
+/// Hands the files back; with `json` a refusal is told as an object.
 pub(crate) fn close<F: FileSystem + ChangedFiles + Drop>(
     rt: &HostRuntime,
     engine: Engine<F>,
+    json: bool,
 ) -> Result<F> {
     match engine.close() {
         Ok(files) => Ok(files),
         Err(refused) => {
-            refused.file_system.tell_refusal(rt)?;
+            refused.file_system.tell_refusal(rt, json)?;
             Err(failure("the log cannot be closed", &refused.fault))
         }
     }

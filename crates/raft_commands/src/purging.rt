@@ -24,11 +24,11 @@ pub(crate) fn purge<R: Threads + Sync, F: FileSystem + ChangedFiles + Drop>(
     out: &mut Output,
 ) -> Result<Status> {
     let alloc = rt.alloc();
-    let mut progress = Progress::new(*rt, options.quiet)?;
+    let mut progress = Progress::of(*rt, options)?;
     let before = find(alloc, &mut files, options)?;
     progress.begin("the log is being opened")?;
     let engine = open(rt, threads, files, options)?;
-    let mut left = purge_and_close(rt, engine, purge, &mut progress, out)?;
+    let mut left = purge_and_close(rt, engine, purge, options.json, &mut progress, out)?;
     let after = find(alloc, &mut left, options)?;
     let gone = before.gone(&left);
     tell_gone(rt, purge, &before, gone, after.reserved, options, out)
@@ -92,13 +92,14 @@ fn purge_and_close<F: FileSystem + ChangedFiles + Drop>(
     rt: &HostRuntime,
     mut engine: Engine<F>,
     purge: Purge,
+    json: bool,
     progress: &mut Progress,
     out: &mut Output,
 ) -> Result<F> {
     match carry_out(rt.alloc(), &mut engine, purge, progress, out) {
-        Ok(None) => close(rt, engine),
+        Ok(None) => close(rt, engine, json),
         Ok(Some(fault)) => {
-            engine.give_up().tell_refusal(rt)?;
+            engine.give_up().tell_refusal(rt, json)?;
             Err(failure("the log cannot be purged", &fault))
         }
         Err(error) => {

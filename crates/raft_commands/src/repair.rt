@@ -28,7 +28,7 @@ pub(crate) fn repair<R: Threads + Sync, F: FileSystem + ChangedFiles + Drop>(
                 engine.give_up();
                 return Err(error);
             }
-            close(rt, engine)?;
+            close(rt, engine, request.options.json)?;
             Ok(Status::Done)
         }
         Err(error) => {

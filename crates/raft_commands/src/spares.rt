@@ -52,8 +52,8 @@ fn make_all<F: FileSystem + ChangedFiles>(
         {bytes} bytes in all"
     );
     note_made(rt, options, text)?;
-    let mut progress = Progress::new(*rt, options.quiet)?;
-    make_spill(rt, files, &wanted.config)?;
+    let mut progress = Progress::of(*rt, options)?;
+    make_spill(rt, files, &wanted.config, options.json)?;
     for place in wanted.found..wanted.count {
         let done = place.saturating_sub(wanted.found) as u64;
         progress.at("reserved files written ahead", done, count)?;
@@ -61,7 +61,7 @@ fn make_all<F: FileSystem + ChangedFiles>(
             Ok(true) => {}
             Ok(false) => return Ok(()),
             Err(fault) => {
-                files.tell_refusal(rt)?;
+                files.tell_refusal(rt, options.json)?;
                 return Err(failure("files cannot be made ahead", &fault));
             }
         }
@@ -74,6 +74,7 @@ fn make_spill<F: FileSystem + ChangedFiles>(
     rt: &HostRuntime,
     files: &mut F,
     config: &Config,
+    json: bool,
 ) -> Result<()> {
     let Some(spill) = &config.spill_dir else {
         return Ok(());
@@ -86,7 +87,7 @@ fn make_spill<F: FileSystem + ChangedFiles>(
     ) {
         Ok(()) => Ok(()),
         Err(fault) => {
-            files.tell_refusal(rt)?;
+            files.tell_refusal(rt, json)?;
             Err(failure("the second folder cannot be made", &fault))
         }
     }

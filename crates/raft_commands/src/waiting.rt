@@ -5,6 +5,7 @@ use anyhow::{Result, anyhow};
 use raft_command_line::Request;
 use raft_disk::{DiskFileSystem, FolderView, OpenFault};
 use raft_looks::told;
+use std::io::ErrorKind;
 use std::thread;
 use std::time::Duration;
 
@@ -22,10 +23,22 @@ pub(crate) fn open_folder(rt: HostRuntime, request: &Request<'_>) -> Result<Disk
                 thread::sleep(&rt, Duration::from_millis(1000 / TRIES));
             }
             Err(OpenFault::InUse(_)) => return Err(in_use(rt, request.folder)),
-            Err(fault) => return Err(told(&rt, &fault)),
+            Err(fault) => return Err(unopened(&rt, request.folder, &fault)),
         }
     }
     Err(in_use(rt, request.folder))
+}
+
+// Why the folder cannot be opened.
+fn unopened(rt: &HostRuntime, folder: &str, fault: &OpenFault) -> anyhow::Error {
+    match fault {
+        OpenFault::Io(_, e) if e.kind() == ErrorKind::AlreadyExists => {
+            anyhow!("a file, or a link that leads nowhere, is in the folder's place").context(
+                folder,
+            )
+        }
+        _ => told(rt, fault),
+    }
 }
 
 // Reserved files are read where the settings want such files alone.

@@ -2,7 +2,7 @@
 
 use crate::changed::ChangedFiles;
 use crate::changes::{Change, write};
-use crate::entries::{append, compact};
+use crate::entries::{append, compact, note_emptied};
 use crate::guard::{give_back, guard, note_taken};
 use crate::lines::{Run, put_lines, read_entry_file, read_value_file};
 use crate::numbered::load;
@@ -42,22 +42,25 @@ pub fn change_by<R: Threads + Sync>(
     if request.options.changing.dry_run {
         return change_image(rt, threads, request, material);
     }
-    let files = open_folder(rt, request)?;
-    let changed = change_files(&rt, threads, files, request, material);
+    let changed = match open_folder(rt, request) {
+        Ok(files) => change_files(&rt, threads, files, request, material),
+        Err(error) => Err(error),
+    };
     if changed.is_err() {
         // What can't be told hides no error.
-        let _ = tell_hindrances(rt, request);
+        let _ = tell_refused(rt, request);
     }
     changed
 }
 
 // What the system refuses of the log's own files, where a change failed.
-fn tell_hindrances(rt: HostRuntime, request: &Request<'_>) -> Result<()> {
+fn tell_refused(rt: HostRuntime, request: &Request<'_>) -> Result<()> {
     let folder = Folder::open(rt, request.folder, &request.options)?;
-    for hindrance in &folder.hindrances()? {
-        eprintln!(rt; "raftctl: {}: {}", hindrance.path, hindrance.cause)?;
-    }
-    Ok(())
+    Ok(
+        folder
+            .refused(&request.options)?
+            .tell(&rt, &request.options)?,
+    )
 }
 
 fn change_image<R: Threads + Sync>(
@@ -67,7 +70,7 @@ fn change_image<R: Threads + Sync>(
     material: &mut Material<'_>,
 ) -> Result<Status> {
     let folder = Folder::open(rt, request.folder, &request.options)?;
-    let mut progress = Progress::new(rt, request.options.quiet)?;
+    let mut progress = Progress::of(rt, &request.options)?;
     match folder.image(&mut progress)? {
         Some(image) => change_files(&rt, threads, image, request, material),
         None => Err(anyhow!(
@@ -101,7 +104,8 @@ fn change_files<R: Threads + Sync, F: FileSystem + ChangedFiles + Drop>(
     };
     match changed {
         Ok(status) => {
-            note_taken(rt, request, &taken)?;
+            // The plan was told before, so that a note that can't be printed hides nothing.
+            let _ = note_taken(rt, request, &taken);
             out.print()?;
             Ok(status)
         }
@@ -124,14 +128,14 @@ fn change_log<R: Threads + Sync, F: FileSystem + ChangedFiles + Drop>(
     match work_on(rt, &mut engine, request, material, out) {
         Ok(status) => {
             if request.sync {
-                close(rt, engine)?;
+                close(rt, engine, request.options.json)?;
             } else {
                 engine.give_up();
             }
             Ok(status)
         }
         Err(error) => {
-            engine.give_up().tell_refusal(rt)?;
+            engine.give_up().tell_refusal(rt, request.options.json)?;
             Err(error)
         }
     }
@@ -190,7 +194,10 @@ fn carry_out<F: FileSystem>(
                 out,
             )
         }
-        Verb::Compact(group, index) => compact(engine, *group, *index, request.sync, out),
+        Verb::Compact(group, index) => {
+            compact(engine, *group, *index, request.sync, out)?;
+            note_emptied(rt, engine, *group, *index, &request.options)
+        }
         Verb::Truncate(group, index) => {
             truncate(rt.alloc(), engine, *group, *index, request.sync, out)
         }

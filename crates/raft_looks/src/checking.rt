@@ -1,27 +1,18 @@
 //! What can be read of each log file, and what an opening would do with it. One file at a time is in memory.
 
 use crate::folder::Folder;
-use crate::hindrances::Hindrance;
-use crate::left_out::LeftOut;
+use crate::planning::BothQueues;
 use anyhow::Result;
 use raft_command_line::{Options, mode_name};
 use raft_config::RecoveryMode;
 use raft_console::{Output, Progress, Status, failure};
-use raft_inspect::{Outlook, QueueFiles, Word, add_queue};
-use raft_records::{Fault, LogQueue};
+use raft_inspect::{Outlook, Word, add_queue};
+use raft_opening_plan::{Kind, Plan};
+use raft_records::Fault;
 use std::alloc::Global;
 
-/// What can be read of the log files of both queues, what else an opening would be refused for, and what isn't read.
-#[derive(Drop)]
-struct Found {
-    append: QueueFiles,
-    rewrite: QueueFiles,
-    hindrances: Vec<Hindrance>,
-    left_out: Vec<LeftOut>,
-}
-
-/// Prints a line for each file, and says what an opening in each mode would do; none if a file is
-/// gone meanwhile.
+/// Prints a line for each file, the plan of an opening in the options' mode, and what an opening in
+/// each mode would do; none if a file is gone meanwhile.
 pub fn check(
     alloc: Global,
     folder: &Folder,
@@ -29,75 +20,41 @@ pub fn check(
     progress: &mut Progress,
     out: &mut Output,
 ) -> Result<Option<Status>> {
-    let Some(found) = find(folder, progress)? else {
+    let Some(queues) = folder.inspect_both(progress)? else {
         return Ok(None);
     };
-    match add_check(alloc, folder, &found, options.mode, out) {
-        Ok(status) => Ok(Some(status)),
+    let Some(plan) = folder.whole_plan(&queues, options, progress)? else {
+        return Ok(None);
+    };
+    match add_check(alloc, folder, &queues, &plan, out) {
+        Ok(()) => Ok(Some(plan.status())),
         Err(fault) => Err(failure("the files cannot be checked", &fault)),
     }
-}
-
-/// The status that `check` of the folder ends with; none if a file is gone.
-pub fn status_of_check(
-    alloc: Global,
-    folder: &Folder,
-    options: &Options<'_>,
-    progress: &mut Progress,
-) -> Result<Option<Status>> {
-    let Some(found) = find(folder, progress)? else {
-        return Ok(None);
-    };
-    match outlook_of(alloc, &found, options.mode) {
-        Ok(outlook) => Ok(Some(status_of(outlook, !found.left_out.is_empty()))),
-        Err(fault) => Err(failure("the files cannot be checked", &fault)),
-    }
-}
-
-fn find(folder: &Folder, progress: &mut Progress) -> Result<Option<Found>> {
-    let Some(append) = folder.inspect(LogQueue::Append, progress)? else {
-        return Ok(None);
-    };
-    let Some(rewrite) = folder.inspect(LogQueue::Rewrite, progress)? else {
-        return Ok(None);
-    };
-    Ok(Some(Found {
-        append,
-        rewrite,
-        hindrances: folder.hindrances()?,
-        left_out: folder.left_out()?,
-    }))
 }
 
 fn add_check(
     alloc: Global,
     folder: &Folder,
-    found: &Found,
-    mode: RecoveryMode,
+    queues: &BothQueues,
+    plan: &Plan,
     out: &mut Output,
-) -> Result<Status, Fault> {
-    add_queue(alloc, &found.append, &mut out.lines)?;
-    add_queue(alloc, &found.rewrite, &mut out.lines)?;
+) -> Result<(), Fault> {
+    add_queue(alloc, &queues.append, &mut out.lines)?;
+    add_queue(alloc, &queues.rewrite, &mut out.lines)?;
     add_names(folder, out)?;
-    for hindrance in &found.hindrances {
-        hindrance.add_line(&mut out.lines)?;
-    }
-    for left_out in &found.left_out {
-        left_out.add_line(&mut out.lines)?;
-    }
-    let mut status = Status::Done;
-    for each in &[
+    plan.add_lines(&mut out.lines)?;
+    for mode in &[
         RecoveryMode::AbsoluteConsistency,
         RecoveryMode::TolerateTailCorruption,
         RecoveryMode::TolerateAnyCorruption,
     ] {
-        let outlook = outlook_of(alloc, found, *each)?;
-        add_outlook(*each, outlook, out)?;
-        if *each == mode {
-            status = status_of(outlook, !found.left_out.is_empty());
+        let mut outlook = outlook_of(alloc, queues, *mode)?;
+        if plan.has(Kind::Refused) {
+            outlook.fails = true;
         }
+        add_outlook(*mode, outlook, out)?;
     }
-    Ok(status)
+    Ok(())
 }
 
 // The files that are no log files.
@@ -114,13 +71,10 @@ fn add_names(folder: &Folder, out: &mut Output) -> Result<(), Fault> {
     Ok(())
 }
 
-fn outlook_of(alloc: Global, found: &Found, mode: RecoveryMode) -> Result<Outlook, Fault> {
+fn outlook_of(alloc: Global, queues: &BothQueues, mode: RecoveryMode) -> Result<Outlook, Fault> {
     let mut outlook = Outlook::new();
-    outlook.add_queue(alloc, &found.append, mode)?;
-    outlook.add_queue(alloc, &found.rewrite, mode)?;
-    if !found.hindrances.is_empty() {
-        outlook.fails = true;
-    }
+    outlook.add_queue(alloc, &queues.append, mode)?;
+    outlook.add_queue(alloc, &queues.rewrite, mode)?;
     Ok(outlook)
 }
 
@@ -137,17 +91,4 @@ fn add_outlook(mode: RecoveryMode, outlook: Outlook, out: &mut Output) -> Result
         ("bytes-passed", Word::Number(outlook.passed_bytes)),
     ])?;
     Ok(())
-}
-
-// Room that was made ahead, and what an earlier file left, hold nothing that could be lost.
-fn status_of(outlook: Outlook, has_left_out: bool) -> Status {
-    if outlook.fails {
-        Status::WouldFail
-    } else if outlook.passed > 0 || has_left_out {
-        Status::WouldPass
-    } else if outlook.files > 0 {
-        Status::WouldCut
-    } else {
-        Status::Done
-    }
 }

@@ -1,8 +1,8 @@
 //! What the system said, in full: an error of the commands has room for 120 bytes.
 
-use anyhow::{Error, anyhow};
+use anyhow::{Error, Result, anyhow};
+use raft_console::tell;
 use raft_disk::{DiskFileSystem, OpenFault};
-use std::io;
 
 /// How many bytes an error's text may have.
 const ROOM: usize = 120;
@@ -20,10 +20,10 @@ pub fn told(rt: &HostRuntime, fault: &OpenFault) -> Error {
     }
 }
 
-/// Tells on standard error what the system refused last of a change.
-pub fn tell_refusal(rt: &HostRuntime, files: &DiskFileSystem) -> io::Result<()> {
+/// Tells on standard error what the system refused last of a change; with `json` as an object.
+pub fn tell_refusal(rt: &HostRuntime, files: &DiskFileSystem, json: bool) -> Result<()> {
     match files.refusal() {
-        Some(refusal) => eprintln!(rt; "raftctl: {refusal}"),
+        Some(refusal) => tell(rt, json, "error", refusal),
         None => Ok(()),
     }
 }

@@ -1,19 +1,17 @@
 //! A folder that is looked at: its log files, one by one or all in memory.
 
 use crate::faults::told;
-use crate::hindrances::{Hindrance, add_hindrances, is_link};
-use crate::left_out::{LeftOut, ReadFiles};
 use crate::reserved::is_reserved;
 use crate::source::{FileSource, is_missing};
 use anyhow::{Result, bail};
 use raft_command_line::Options;
 use raft_config::RecoveryMode;
 use raft_console::Progress;
-use raft_disk::{FolderView, image_of};
+use raft_disk::{FolderView, SpanNote, image_of};
 use raft_dump::{FileCheck, LogFile, check_file, log_file, log_files};
 use raft_env::FileSystem;
 use raft_files::FileNameExt;
-use raft_inspect::{Cut, Passed, QueueFiles, cuts_of};
+use raft_inspect::{Cut, QueueFiles, cuts_of};
 use raft_memory::MemoryFileSystem;
 use raft_parts::check_parts;
 use raft_records::{Fault, LogQueue};
@@ -27,12 +25,14 @@ const NAME_LEN: usize = 24;
 
 /// A look at a folder, which can't change it, and the names of its files.
 pub struct Folder {
-    rt: HostRuntime,
-    alloc: Global,
-    path: String,
-    view: FolderView,
+    pub(crate) rt: HostRuntime,
+    pub(crate) alloc: Global,
+    pub(crate) path: String,
+    pub(crate) view: FolderView,
     /// The second folder, if the options name one.
-    spill: Option<String>,
+    pub(crate) spill: Option<String>,
+    /// The note of the numbers that the log's files have had.
+    pub(crate) note: Option<SpanNote>,
     pub files: Vec<LogFile>,
     /// The files that are kept to be used as next log files, and hold no record.
     pub reserved: Vec<ReservedFile>,
@@ -49,6 +49,7 @@ impl Drop for Folder {
             path: _path,
             view: _view,
             spill: _spill,
+            note: _note,
             files: _files,
             reserved: _reserved,
             others: _others,
@@ -77,6 +78,7 @@ impl Folder {
             path: String::from_str(alloc, path)?,
             view,
             spill: None,
+            note: None,
             files: Vec::new(alloc),
             reserved: Vec::new(alloc),
             others: Vec::new(alloc),
@@ -86,12 +88,13 @@ impl Folder {
     }
 
     fn add_all(&mut self, spill: Option<&str>) -> Result<()> {
+        let note = self.note_now()?;
         self.add("")?;
         if let Some(spill) = spill {
             self.add_second(spill)?;
             self.spill = Some(String::from_str(self.alloc, spill)?);
         }
-        Ok(())
+        self.read_note(note)
     }
 
     fn add(&mut self, folder: &str) -> Result<()> {
@@ -113,39 +116,6 @@ impl Folder {
     /// Whether a writer has the folder open, so that the files may change meanwhile.
     pub fn is_in_use(&self) -> bool {
         self.view.is_in_use()
-    }
-
-    /// What an opening would be refused for, whatever its files hold.
-    pub fn hindrances(&self) -> Result<Vec<Hindrance>> {
-        let mut found = Vec::new(self.alloc);
-        add_hindrances(&self.rt, self.path.as_str(), &mut found)?;
-        if let Some(spill) = &self.spill {
-            let place = format!(in self.alloc; "{}/{spill}", self.path)?;
-            if is_link(&self.rt, place.as_str()) {
-                let cause = String::from_str(self.alloc, "a second folder may not be a link")?;
-                found.push(Hindrance { path: place, cause })?;
-                return Ok(found);
-            }
-            add_hindrances(&self.rt, place.as_str(), &mut found)?;
-        }
-        Ok(found)
-    }
-
-    /// The unread parts of the log: folders directly inside with files of it, or the Rewrite queue,
-    /// if it is gone.
-    pub fn left_out(&self) -> Result<Vec<LeftOut>> {
-        let spill = match &self.spill {
-            Some(spill) => Some(spill.as_str()),
-            None => None,
-        };
-        ReadFiles {
-            rt: self.rt,
-            view: &self.view,
-            path: self.path.as_str(),
-            spill,
-            files: &self.files,
-        }
-        .left_out()
     }
 
     fn add_names(&mut self, folder: &str, names: Vec<String>) -> Result<()> {
@@ -321,17 +291,6 @@ impl Folder {
         let files = self.files_of(queue)?;
         match self.checks_of(&files, progress)? {
             Some(checks) => Ok(Some(QueueFiles::new(queue, files, checks))),
-            None => Ok(None),
-        }
-    }
-
-    /// The files of a queue that hold something and that an opening passes over, since a number is
-    /// missing after them. It reads only those.
-    pub fn passed(&self, queue: LogQueue, progress: &mut Progress) -> Result<Option<Passed>> {
-        let files = self.files_of(queue)?;
-        let count = QueueFiles::passed_by_number(&files);
-        match self.checks_of(files.get(..count).unwrap_or(&[]), progress)? {
-            Some(checks) => Ok(Passed::of(queue, &checks)),
             None => Ok(None),
         }
     }

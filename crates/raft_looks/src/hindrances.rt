@@ -1,8 +1,8 @@
 //! What an opening would be refused for, whatever its files hold: links, pipes and rights.
 
 use anyhow::{Result, anyhow};
-use raft_disk::is_log_name;
-use raft_inspect::{Lines, Word};
+use raft_disk::{is_log_name, is_plain};
+use raft_opening_plan::{Plan, Planner};
 use std::alloc::AllocError;
 use std::fs::{self, DirEntry, Metadata, OpenOptions};
 use std::io::{self, ErrorKind};
@@ -10,88 +10,131 @@ use std::os::unix::fs::MetadataExt;
 
 const LOCK: &str = "LOCK";
 
-/// A path of the system, and why an opening would be refused there.
+/// The end of the name of a reserved file.
+const RESERVED: &str = ".reserved";
+
+/// Why a path is refused, and the command that mends it.
 #[derive(Drop)]
-pub struct Hindrance {
-    pub path: String,
-    pub cause: String,
+struct Cause {
+    text: String,
+    mend: String,
 }
 
-impl Hindrance {
-    /// Adds a line for it.
-    pub(crate) fn add_line(&self, lines: &mut Lines) -> Result<(), AllocError> {
-        lines.named(&[
-            ("refused", Word::Bytes(self.path.as_bytes())),
-            ("cause", Word::Bytes(self.cause.as_bytes())),
-        ])
-    }
+/// Looks at places of the system for what an opening is refused there.
+#[derive(Clone, Copy)]
+pub(crate) struct Places<'a> {
+    pub rt: &'a HostRuntime,
+    pub planner: Planner<'a>,
+    /// Whether the opening reads reserved files.
+    pub reads_reserved: bool,
 }
 
-/// Adds what an opening would be refused for at the log's own files in a folder of the system. It
-/// opens files to write and writes nothing; a folder that isn't there has none.
-pub(crate) fn add_hindrances(
-    rt: &HostRuntime,
-    folder: &str,
-    found: &mut Vec<Hindrance>,
-) -> Result<()> {
-    let entries = match fs::read_dir(rt, folder) {
-        Ok(entries) => entries,
-        Err(e) if e.kind() == ErrorKind::NotFound => return Ok(()),
-        Err(e) => return Err(anyhow!("{e}").context(folder)),
-    };
-    for entry in entries {
-        match entry {
-            Ok(entry) => add_entry(rt, &entry, found)?,
-            // No log file's.
-            Err(e) if e.kind() == ErrorKind::InvalidFilename => {}
+impl Places<'_> {
+    /// Adds what an opening would be refused for at the log's own files in a folder of the system.
+    /// It opens files to write and writes nothing; a folder that isn't there has none.
+    pub fn add_refused(&self, folder: &str, plan: &mut Plan) -> Result<()> {
+        let entries = match fs::read_dir(self.rt, folder) {
+            Ok(entries) => entries,
+            Err(e) if e.kind() == ErrorKind::NotFound => return Ok(()),
             Err(e) => return Err(anyhow!("{e}").context(folder)),
+        };
+        for entry in entries {
+            match entry {
+                Ok(entry) => self.add_entry(&entry, plan)?,
+                // No log file's.
+                Err(e) if e.kind() == ErrorKind::InvalidFilename => {}
+                Err(e) => return Err(anyhow!("{e}").context(folder)),
+            }
         }
+        Ok(())
     }
-    Ok(())
-}
 
-fn add_entry(rt: &HostRuntime, entry: &DirEntry, found: &mut Vec<Hindrance>) -> Result<()> {
-    let alloc = rt.alloc();
-    let is_lock = entry.file_name() == LOCK;
-    if !is_lock && !is_log_name(entry.file_name()) {
-        return Ok(());
+    /// The same for the second folder and those on the way to it, by its path from the log's folder.
+    pub fn add_spill(&self, folder: &str, spill: &str, plan: &mut Plan) -> Result<()> {
+        let alloc = self.rt.alloc();
+        if !is_plain(spill) {
+            let cause = "the second folder has no path of a folder below the log's";
+            let item = self.planner.refused(spill, cause, String::new(alloc))?;
+            return Ok(plan.items.push(item)?);
+        }
+        let mut place = String::from_str(alloc, folder)?;
+        for part in spill.split('/') {
+            place.push('/')?;
+            place.push_str(part)?;
+            if is_link(self.rt, place.as_str()) {
+                let cause = "the second folder is a link: put the folder itself there";
+                let none = String::new(alloc);
+                let item = self.planner.refused(place.as_str(), cause, none)?;
+                return Ok(plan.items.push(item)?);
+            }
+            self.add_refused(place.as_str(), plan)?;
+        }
+        Ok(())
     }
-    let place = entry.path();
-    let cause = match fs::symlink_metadata(rt, place.as_str()) {
-        Ok(metadata) => cause_of(rt, place.as_str(), &metadata, is_lock)?,
-        // A writer deleted it.
-        Err(_) => None,
-    };
-    if let Some(cause) = cause {
-        let path = String::from_str(alloc, place.as_str())?;
-        found.push(Hindrance { path, cause })?;
-    }
-    Ok(())
-}
 
-fn cause_of(
-    rt: &HostRuntime,
-    place: &str,
-    metadata: &Metadata,
-    is_lock: bool,
-) -> Result<Option<String>, AllocError> {
-    let alloc = rt.alloc();
-    // An opening passes over a folder with a log file's name.
-    if !is_lock && metadata.is_dir() {
-        return Ok(None);
+    fn add_entry(&self, entry: &DirEntry, plan: &mut Plan) -> Result<()> {
+        let is_lock = entry.file_name() == LOCK;
+        if !is_lock && !is_log_name(entry.file_name()) {
+            return Ok(());
+        }
+        let is_opened = self.reads_reserved || !entry.file_name().ends_with(RESERVED);
+        let place = entry.path();
+        let metadata = match is_lock {
+            // The lock may be a link to a file.
+            true => fs::metadata(self.rt, place.as_str()),
+            false => fs::symlink_metadata(self.rt, place.as_str()),
+        };
+        let cause = match metadata {
+            // An opening passes over a folder with a log file's name.
+            Ok(metadata) if !is_lock && metadata.is_dir() => None,
+            Ok(metadata) => self.cause_of(place.as_str(), &metadata, is_lock, is_opened)?,
+            // A writer deleted it.
+            Err(_) => None,
+        };
+        if let Some(Cause { text, mend }) = cause {
+            let item = self.planner.refused(place.as_str(), text.as_str(), mend)?;
+            plan.items.push(item)?;
+        }
+        Ok(())
     }
-    if is_lock && !metadata.is_file() {
-        return Ok(Some(String::from_str(alloc, "the lock is no file")?));
-    }
-    if !is_lock && (!metadata.is_file() || metadata.nlink() != 1) {
-        let cause = "neither a folder nor a file of one name";
-        return Ok(Some(String::from_str(alloc, cause)?));
-    }
-    match opened(rt, place) {
-        Ok(()) => Ok(None),
-        // A look works on what may not be written at all.
-        Err(e) if e.kind() == ErrorKind::ReadOnlyFilesystem => Ok(None),
-        Err(e) => Ok(Some(format!(in alloc; "{e}")?)),
+
+    fn cause_of(
+        &self,
+        place: &str,
+        metadata: &Metadata,
+        is_lock: bool,
+        is_opened: bool,
+    ) -> Result<Option<Cause>, AllocError> {
+        let alloc = self.rt.alloc();
+        if !metadata.is_file() {
+            let text = match (is_lock, metadata.is_symlink()) {
+                (true, _) => "the lock is no file",
+                (false, true) => "a link in place of a log file",
+                (false, false) => "neither a file nor a folder",
+            };
+            return Ok(Some(Cause {
+                text: String::from_str(alloc, text)?,
+                mend: self.planner.move_place(place, "aside")?,
+            }));
+        }
+        if !is_lock && metadata.nlink() != 1 {
+            return Ok(Some(Cause {
+                text: String::from_str(alloc, "the file has a second name")?,
+                mend: self.planner.copy_over(place)?,
+            }));
+        }
+        if !is_opened {
+            return Ok(None);
+        }
+        match opened(self.rt, place) {
+            Ok(()) => Ok(None),
+            // A look works on what may not be written at all.
+            Err(e) if e.kind() == ErrorKind::ReadOnlyFilesystem => Ok(None),
+            Err(e) => Ok(Some(Cause {
+                text: format!(in alloc; "{e}")?,
+                mend: self.planner.allow(place)?,
+            })),
+        }
     }
 }
 
@@ -102,8 +145,7 @@ fn opened(rt: &HostRuntime, place: &str) -> io::Result<()> {
     Ok(())
 }
 
-/// Whether a path is a link.
-pub(crate) fn is_link(rt: &HostRuntime, path: &str) -> bool {
+fn is_link(rt: &HostRuntime, path: &str) -> bool {
     match fs::symlink_metadata(rt, path) {
         Ok(metadata) => metadata.is_symlink(),
         Err(_) => false,

@@ -1,90 +1,78 @@
-//! Files of a log that aren't read: in a folder below, as a second one that no word names, or gone.
+//! Files of a log that aren't read: in a folder below that no word names, or gone.
 
 use crate::faults::told;
 use crate::source::is_missing;
 use anyhow::{Result, anyhow, bail};
 use raft_disk::{FolderView, OpenFault};
 use raft_dump::{LogFile, log_files};
-use raft_inspect::{Lines, QueueFiles, Word};
-use raft_records::LogQueue;
+use raft_files::LogFileFormat;
+use raft_inspect::QueueFiles;
+use raft_opening_plan::{Plan, Planner};
+use raft_records::{FileId, LogQueue};
 use std::alloc::AllocError;
 use std::fs::{self, DirEntry};
 use std::io::ErrorKind;
 
 const LOCK: &str = "LOCK";
 
-/// What an opening leaves out.
-#[derive(Drop)]
-pub enum LeftOut {
-    /// A folder, by its path from the log's on, with files that the opening would keep, if it read them too; and how
-    /// many log files it has, and bytes.
-    Folder(String, u64, u64),
-    /// The Rewrite queue: each opening makes a first file of it, and it has none. The number of the
-    /// Append queue's first file, before which files were dropped.
-    Rewrite(u64),
-    /// The Append queue: each opening makes a file of it, and it has none. How many files the Rewrite
-    /// queue has.
-    Append(u64),
-}
-
-impl LeftOut {
-    /// Adds a line for it.
-    pub(crate) fn add_line(&self, lines: &mut Lines) -> Result<(), AllocError> {
-        match self {
-            LeftOut::Folder(folder, files, bytes) => lines.named(&[
-                ("left-out", Word::Bytes(folder.as_bytes())),
-                ("files", Word::Number(*files)),
-                ("bytes", Word::Number(*bytes)),
-            ]),
-            LeftOut::Rewrite(first) => lines.named(&[
-                ("queue", Word::Text("rewrite")),
-                ("files", Word::Number(0)),
-                ("append-first", Word::Number(*first)),
-            ]),
-            LeftOut::Append(files) => lines.named(&[
-                ("queue", Word::Text("append")),
-                ("files", Word::Number(0)),
-                ("rewrite-files", Word::Number(*files)),
-            ]),
-        }
-    }
-}
+/// How many bytes of two files of one number are compared.
+const COMPARED: usize = 64 * 1024;
 
 /// A log's folder, and its files that are read.
 #[derive(Drop)]
 pub(crate) struct ReadFiles<'a> {
     pub rt: HostRuntime,
+    pub planner: Planner<'a>,
     pub view: &'a FolderView,
-    pub path: &'a str,
-    pub spill: Option<&'a str>,
     pub files: &'a [LogFile],
 }
 
+/// What a folder's files are to those that are read.
+#[derive(Clone, Copy, PartialEq, Eq)]
+enum Kinship {
+    /// No number is in both.
+    Apart,
+    /// One of a number in both begins with the same bytes, or all of them hold nothing.
+    Copy,
+    /// This number is in both.
+    Doubled(FileId),
+}
+
 impl ReadFiles<'_> {
-    /// The folders directly inside that are left out: their files continue the numbers of those
-    /// that are read, and no number is in both. A folder with its own lock is another log. Without
-    /// such folders, a queue that is gone.
-    pub fn left_out(&self) -> Result<Vec<LeftOut>> {
-        let mut found = Vec::new(self.rt.alloc());
-        let entries = match fs::read_dir(&self.rt, self.path) {
+    /// Adds the folders directly inside that are left out: an opening that read their files too
+    /// would keep one of them. A copy of the log is none, nor is a folder with its own lock, which is
+    /// another log. Without such folders, a queue that is gone.
+    pub fn add_left_out(&self, plan: &mut Plan) -> Result<()> {
+        let entries = match fs::read_dir(&self.rt, self.planner.folder) {
             Ok(entries) => entries,
-            Err(e) => return Err(anyhow!("{e}").context(self.path)),
+            Err(e) => return Err(anyhow!("{e}").context(self.planner.folder)),
         };
+        let before = plan.items.len();
         for entry in entries {
             match entry {
-                Ok(entry) => self.add_entry(&entry, &mut found)?,
+                Ok(entry) => self.add_entry(&entry, plan)?,
                 // No word can name it.
                 Err(e) if e.kind() == ErrorKind::InvalidFilename => {}
-                Err(e) => return Err(anyhow!("{e}").context(self.path)),
+                Err(e) => return Err(anyhow!("{e}").context(self.planner.folder)),
             }
         }
-        if let (true, Some(first)) = (found.is_empty(), self.first_without_rewrite()) {
-            found.push(LeftOut::Rewrite(first))?;
+        if plan.items.len() == before {
+            self.add_gone(plan)?;
         }
-        if let (true, Some(files)) = (found.is_empty(), self.files_without_append()) {
-            found.push(LeftOut::Append(files))?;
+        Ok(())
+    }
+
+    // Adds a queue without a file, if the other one has files that say that it had some.
+    fn add_gone(&self, plan: &mut Plan) -> Result<(), AllocError> {
+        if let Some(first) = self.first_without_rewrite() {
+            let item = self.planner.gone_queue(LogQueue::Rewrite, first)?;
+            plan.items.push(item)?;
         }
-        Ok(found)
+        if let Some(files) = self.files_without_append() {
+            let item = self.planner.gone_queue(LogQueue::Append, files)?;
+            plan.items.push(item)?;
+        }
+        Ok(())
     }
 
     // The number of the Append queue's first file, where files before it were dropped and the Rewrite queue has none.
@@ -115,43 +103,76 @@ impl ReadFiles<'_> {
         Some(self.files.len() as u64)
     }
 
-    fn add_entry(&self, entry: &DirEntry, found: &mut Vec<LeftOut>) -> Result<()> {
+    fn add_entry(&self, entry: &DirEntry, plan: &mut Plan) -> Result<()> {
         let name = entry.file_name();
         let is_folder = match entry.metadata() {
             Ok(metadata) => metadata.is_dir(),
             // A writer deleted it.
             Err(_) => false,
         };
-        if !is_folder || self.spill == Some(name) {
+        if !is_folder || self.planner.spill == Some(name) {
             return Ok(());
         }
-        let lock = format!(in self.rt.alloc(); "{}/{name}/{LOCK}", self.path)?;
+        let lock = format!(in self.rt.alloc(); "{}/{name}/{LOCK}", self.planner.folder)?;
         if fs::symlink_metadata(&self.rt, lock.as_str()).is_ok() {
             return Ok(());
         }
         match self.view.names(name) {
-            Ok(names) => self.add_folder(name, &names, found),
+            Ok(names) => self.add_folder(name, &names, plan),
             Err(fault) if is_missing(&fault) || is_closed(&fault) => Ok(()),
             Err(fault) => Err(told(&self.rt, &fault)),
         }
     }
 
-    fn add_folder(&self, folder: &str, names: &[String], found: &mut Vec<LeftOut>) -> Result<()> {
-        let alloc = self.rt.alloc();
-        let there = match log_files(alloc, folder, names) {
+    fn add_folder(&self, folder: &str, names: &[String], plan: &mut Plan) -> Result<()> {
+        let there = match log_files(self.rt.alloc(), folder, names) {
             Ok(there) => there,
             Err(fault) => bail!("{fault}"),
         };
-        // No number is in both.
-        if has_one_of(self.files, &there) || !self.is_gone_on(&there)? {
+        if !self.is_gone_on(&there)? {
             return Ok(());
         }
+        let doubled = match self.kinship_of(&there)? {
+            Kinship::Copy => return Ok(()),
+            Kinship::Apart => None,
+            Kinship::Doubled(id) => Some(id),
+        };
         let mut bytes = 0u64;
         for file in &there {
             bytes = bytes.saturating_add(self.view.size(file.path.as_str()).unwrap_or(0));
         }
-        let folder = String::from_str(alloc, folder)?;
-        Ok(found.push(LeftOut::Folder(folder, there.len() as u64, bytes))?)
+        let files = there.len() as u64;
+        let item = self.planner.left_out_folder(folder, files, bytes, doubled)?;
+        Ok(plan.items.push(item)?)
+    }
+
+    fn kinship_of(&self, there: &[LogFile]) -> Result<Kinship> {
+        let mut kinship = Kinship::Apart;
+        let mut is_empty = true;
+        for file in there {
+            let front = self.front_of(file.path.as_str())?;
+            let holds = holds_more_than_header(&front);
+            is_empty = is_empty && !holds;
+            for own in self.files {
+                if own.id != file.id {
+                    continue;
+                }
+                if holds && begin_alike(&self.front_of(own.path.as_str())?, &front) {
+                    return Ok(Kinship::Copy);
+                }
+                kinship = Kinship::Doubled(own.id);
+            }
+        }
+        Ok(if is_empty { Kinship::Copy } else { kinship })
+    }
+
+    // The first bytes of a file; none if a writer deleted it.
+    fn front_of(&self, path: &str) -> Result<Vec<u8>> {
+        match self.view.read_part(path, 0, COMPARED) {
+            Ok(bytes) => Ok(bytes),
+            Err(fault) if is_missing(&fault) => Ok(Vec::new(self.rt.alloc())),
+            Err(fault) => Err(told(&self.rt, &fault)),
+        }
     }
 
     // Whether an opening that read these files too would keep one of them.
@@ -168,6 +189,17 @@ impl ReadFiles<'_> {
         }
         Ok(false)
     }
+}
+
+// Whether a file that begins so has a header, and something after it.
+fn holds_more_than_header(front: &[u8]) -> bool {
+    let mut rest = front;
+    front.len() > LogFileFormat::max_encoded_len() && LogFileFormat::decode(&mut rest).is_ok()
+}
+
+// Whether two files begin with the same bytes, and more than a header.
+fn begin_alike(one: &[u8], other: &[u8]) -> bool {
+    holds_more_than_header(one) && (one.starts_with(other) || other.starts_with(one))
 }
 
 // Whether one of the others is among the files, by its number.

@@ -8,14 +8,15 @@ mod faults;
 mod folder;
 mod hindrances;
 mod left_out;
+mod note;
+mod planning;
 mod reserved;
 mod source;
 
-pub use checking::{check, status_of_check};
+pub use checking::check;
 pub use dumping::dump;
 pub use faults::{tell_refusal, told};
 pub use folder::{Folder, ReservedFile};
-pub use hindrances::Hindrance;
-pub use left_out::LeftOut;
+pub use planning::BothQueues;
 pub use reserved::is_reserved;
 pub use source::FileSource;

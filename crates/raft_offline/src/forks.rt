@@ -1,17 +1,16 @@
 //! Copies a log into a separate folder, from which it can be opened.
 
 use crate::copies::{Copy, planned};
-use crate::passed::tell_passed;
 use anyhow::{Result, anyhow};
 use raft_command_line::Request;
-use raft_commands::{config, note_left_out};
+use raft_commands::config;
 use raft_config::Config;
 use raft_console::{Output, Progress, Status, failure, or_failure};
 use raft_disk::{DiskFileSystem, FolderView, OpenFault, image_of};
 use raft_env::{FileSystem, FsFault};
 use raft_fork::FORK_MARK;
 use raft_inspect::Word;
-use raft_looks::{Folder, status_of_check, tell_refusal, told};
+use raft_looks::{Folder, tell_refusal, told};
 use std::alloc::Global;
 use std::io::ErrorKind;
 
@@ -45,9 +44,8 @@ fn fork_source(
         return Err(anyhow!("it is open already").context(request.folder));
     }
     let settings = config(rt.alloc(), &request.options)?;
-    let copies = plan(rt, source, target, &settings)?;
-    tell_passed(&rt, source, &settings, &copies)?;
     let status = status_of_source(rt, request)?;
+    let copies = plan(rt, source, target, &settings)?;
     match DiskFileSystem::open_with(rt, target, None) {
         Ok(mut files) => {
             copy_or_tell(rt, source, &copies, &mut files, request)?;
@@ -57,13 +55,15 @@ fn fork_source(
     }
 }
 
-// Tells what isn't read of the source, and returns what `check` of it ends with.
+// Tells the plan of an opening of the source, and returns what `check` of it ends with.
 fn status_of_source(rt: HostRuntime, request: &Request<'_>) -> Result<Status> {
     let folder = Folder::open(rt, request.folder, &request.options)?;
-    note_left_out(&rt, &folder.left_out()?, request)?;
-    let mut progress = Progress::new(rt, request.options.quiet)?;
-    match status_of_check(rt.alloc(), &folder, &request.options, &mut progress)? {
-        Some(status) => Ok(status),
+    let mut progress = Progress::of(rt, &request.options)?;
+    match folder.plan(&request.options, &mut progress)? {
+        Some(plan) => {
+            plan.tell(&rt, &request.options)?;
+            Ok(plan.status())
+        }
         None => Err(anyhow!("a file of it was deleted meanwhile").context(request.folder)),
     }
 }
@@ -78,7 +78,7 @@ fn copy_or_tell(
 ) -> Result<()> {
     let copied = copy_all(rt, source, copies, files, request);
     if copied.is_err() {
-        tell_refusal(&rt, files)?;
+        tell_refusal(&rt, files, request.options.json)?;
     }
     copied
 }
@@ -123,8 +123,8 @@ fn add_names(
     Ok(())
 }
 
-/// The names of the files in a folder; none if it does not exist.
-pub(crate) fn names_in(rt: &HostRuntime, view: &FolderView, folder: &str) -> Result<Vec<String>> {
+// The names of the files in a folder; none if it does not exist.
+fn names_in(rt: &HostRuntime, view: &FolderView, folder: &str) -> Result<Vec<String>> {
     match view.names(folder) {
         Ok(names) => Ok(names),
         Err(OpenFault::Io(_, e)) if e.kind() == ErrorKind::NotFound => Ok(Vec::new(rt.alloc())),
@@ -148,7 +148,7 @@ fn copy_all<F: FileSystem>(
     files: &mut F,
     request: &Request<'_>,
 ) -> Result<()> {
-    let mut progress = Progress::new(rt, request.options.quiet)?;
+    let mut progress = Progress::of(rt, &request.options)?;
     let mut out = Output::new(rt, &request.options);
     done(rt.alloc(), FORK_MARK, put_file(files, FORK_MARK, &[]))?;
     for (place, copy) in copies.iter().enumerate() {

@@ -3,7 +3,6 @@
 
 mod copies;
 mod forks;
-mod passed;
 mod settings;
 
 pub use forks::fork_folder;

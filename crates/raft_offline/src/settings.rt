@@ -177,15 +177,21 @@ fn line_at(text: &str, at: usize) -> usize {
 
 /// Prints the settings in force. It fails where they contradict one another.
 pub fn print_settings(rt: &HostRuntime, options: &Options<'_>) -> Result<Status> {
-    let text = text_of(rt.alloc(), config(rt.alloc(), options)?)?;
+    let text = text_of(rt.alloc(), config(rt.alloc(), options)?, options.json)?;
     print_bytes(rt, text.as_bytes())?;
     Ok(Status::Done)
 }
 
-// What an opening makes of these settings.
-fn text_of(alloc: Global, mut config: Config) -> Result<String> {
+// What an opening makes of these settings, as TOML or as an object of JSON.
+fn text_of(alloc: Global, mut config: Config, json: bool) -> Result<String> {
     if let Err(fault) = config.sanitize() {
         return Err(anyhow!("the settings contradict one another: {fault}"));
+    }
+    if json {
+        return match serde_json::to_string(alloc, &config) {
+            Ok(text) => Ok(format!(in alloc; "{text}\n")?),
+            Err(e) => Err(anyhow!("the settings cannot be written: {e}")),
+        };
     }
     match write(alloc, &config) {
         Ok(text) => Ok(text),

@@ -1,0 +1,57 @@
+//! What the note of spans says of a folder's files.
+
+use crate::faults::told;
+use crate::folder::Folder;
+use anyhow::Result;
+use raft_disk::SpanNote;
+use raft_opening_plan::Known;
+use raft_records::LogQueue;
+
+impl Folder {
+    /// The note, read before and after the names; none if a writer changed it meanwhile.
+    pub(crate) fn read_note(&mut self, before: Option<SpanNote>) -> Result<()> {
+        let Some(before) = before else {
+            return Ok(());
+        };
+        if let Some(after) = self.note_now()? {
+            if after.count == before.count {
+                self.note = Some(after);
+            }
+        }
+        Ok(())
+    }
+
+    pub(crate) fn note_now(&self) -> Result<Option<SpanNote>> {
+        match self.view.spans() {
+            Ok(note) => Ok(note),
+            Err(fault) => Err(told(&self.rt, &fault)),
+        }
+    }
+
+    /// What the note says of a queue; none without a note, and if another program wrote to the log
+    /// after it.
+    pub(crate) fn known(&self, queue: LogQueue) -> Result<Option<Known>> {
+        let Some(note) = &self.note else {
+            return Ok(None);
+        };
+        let span = match queue {
+            LogQueue::Append => note.spans.append,
+            LogQueue::Rewrite => note.spans.rewrite,
+        };
+        let mut numbers = Vec::new(self.alloc);
+        for file in self.files_of(queue)? {
+            numbers.push(file.id.seq)?;
+        }
+        let report = span.report(self.alloc, &numbers)?;
+        if report.is_stale {
+            return Ok(None);
+        }
+        Ok(Some(Known {
+            first: span.first,
+            last: span.last,
+            missing: report.missing,
+            strays: report.strays,
+            left_over: report.left_over,
+        }))
+    }
+}

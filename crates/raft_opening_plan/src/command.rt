@@ -1,0 +1,128 @@
+//! Commands for a shell.
+
+use crate::planner::Planner;
+use std::alloc::{AllocError, Global};
+
+impl Planner<'_> {
+    /// `raftctl FOLDER WORDS`, with the second folder if the command line names one.
+    pub(crate) fn raftctl(&self, words: &str) -> Result<String, AllocError> {
+        let folder = quoted(self.alloc, self.folder)?;
+        match self.spill {
+            Some(spill) => {
+                let spill = quoted(self.alloc, spill)?;
+                format!(in self.alloc; "raftctl {folder} {words} --spill {spill}")
+            }
+            None => format!(in self.alloc; "raftctl {folder} {words}"),
+        }
+    }
+
+    /// Reads all whole records into a new log beside this one.
+    pub(crate) fn salvage(&self) -> Result<String, AllocError> {
+        let target = self.beside("saved")?;
+        self.raftctl(format!(in self.alloc; "salvage {target}")?.as_str())
+    }
+
+    /// Reads this log into a new one beside it, also blocks that LZ4 compressed.
+    pub(crate) fn import(&self) -> Result<String, AllocError> {
+        let target = self.beside("imported")?;
+        let folder = quoted(self.alloc, self.folder)?;
+        match self.spill {
+            Some(spill) => {
+                let spill = quoted(self.alloc, spill)?;
+                format!(in self.alloc;
+                    "raftctl {target} import --from-folder {folder} --from-spill {spill}"
+                )
+            }
+            None => format!(in self.alloc; "raftctl {target} import --from-folder {folder}"),
+        }
+    }
+
+    /// Gives a file of the log's folder a name that is no log file's.
+    pub(crate) fn move_aside(&self, path: &str, ending: &str) -> Result<String, AllocError> {
+        self.move_place(
+            format!(in self.alloc; "{}/{path}", self.front())?.as_str(),
+            ending,
+        )
+    }
+
+    /// Gives a path of the system another name, in the same folder.
+    pub fn move_place(&self, place: &str, ending: &str) -> Result<String, AllocError> {
+        let from = quoted(self.alloc, place)?;
+        let to = format!(in self.alloc; "{place}.{ending}")?;
+        let to = quoted(self.alloc, to.as_str())?;
+        format!(in self.alloc; "mv {from} {to}")
+    }
+
+    /// Lets the owner of a path read and write it.
+    pub fn allow(&self, place: &str) -> Result<String, AllocError> {
+        let place = quoted(self.alloc, place)?;
+        format!(in self.alloc; "chmod u+rw {place}")
+    }
+
+    /// Puts a copy in the place of a file, whose other names keep the file itself.
+    pub fn copy_over(&self, place: &str) -> Result<String, AllocError> {
+        let copy = format!(in self.alloc; "{place}.copy")?;
+        let copy = quoted(self.alloc, copy.as_str())?;
+        let place = quoted(self.alloc, place)?;
+        format!(in self.alloc; "cp -p {place} {copy} && mv {copy} {place}")
+    }
+
+    /// Moves a folder out of the log's.
+    pub(crate) fn move_out(&self, below: &str) -> Result<String, AllocError> {
+        let from = format!(in self.alloc; "{}/{below}", self.front())?;
+        let from = quoted(self.alloc, from.as_str())?;
+        let to = self.beside(below)?;
+        format!(in self.alloc; "mv {from} {to}")
+    }
+
+    /// The option for a second folder.
+    pub(crate) fn spill_option(&self, below: &str) -> Result<String, AllocError> {
+        let below = quoted(self.alloc, below)?;
+        format!(in self.alloc; "--spill {below}")
+    }
+
+    // A path beside the log's folder, as a word of a shell.
+    fn beside(&self, ending: &str) -> Result<String, AllocError> {
+        let place = format!(in self.alloc; "{}.{ending}", self.front())?;
+        quoted(self.alloc, place.as_str())
+    }
+
+    // The folder's path without slashes at its end.
+    fn front(&self) -> &str {
+        self.folder.trim_end_matches('/')
+    }
+}
+
+// A text as a word of a shell.
+fn quoted(alloc: Global, text: &str) -> Result<String, AllocError> {
+    if is_word(text) {
+        return String::from_str(alloc, text);
+    }
+    let mut quoted = String::new(alloc);
+    quoted.push_str("$'")?;
+    for each in text.chars() {
+        match each {
+            '\'' | '\\' => {
+                quoted.push('\\')?;
+                quoted.push(each)?;
+            }
+            _ if each.is_control() => {
+                let code = u32::from(each);
+                quoted.push_str(format!(in alloc; "\\u{code:04x}")?.as_str())?;
+            }
+            _ => quoted.push(each)?,
+        }
+    }
+    quoted.push('\'')?;
+    Ok(quoted)
+}
+
+// Whether a shell takes a text as one word, as it is.
+fn is_word(text: &str) -> bool {
+    for byte in text.as_bytes() {
+        if !byte.is_ascii_alphanumeric() && !b"/._-+,:@%=".contains(byte) {
+            return false;
+        }
+    }
+    !text.is_empty()
+}
