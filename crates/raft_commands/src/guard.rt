@@ -46,7 +46,7 @@ struct Survey {
     plan: Plan,
 }
 
-/// Finds what an opening of the request's folder loses, and keeps it in files beside; none where more
+/// Finds what an opening of the request's folder loses, and keeps it in files beside; none if more
 /// is lost than an unsynced tail explains and no word allows that. Standard error has the plan. It
 /// fails, and has changed nothing, if the opening would fail.
 pub(crate) fn guard<F: FileSystem + ChangedFiles>(
