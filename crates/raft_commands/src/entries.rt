@@ -17,8 +17,9 @@ const PAGE_BYTES: usize = 1024 * 1024;
 /// A batch takes so many bytes of values, or one value that has more.
 const BATCH_BYTES: usize = 1024 * 1024;
 
-/// Adds the entries of these runs, each from its index on or behind the group's last one, syncs with the last where
-/// that is asked, and prints their first and last index, behind the group if each line tells it.
+/// Adds the entries of these runs, each from its index on or after the group's last one. It syncs
+/// with the last if that is asked, and prints their first and last index, after the group if each
+/// line has one.
 pub(crate) fn append<F: FileSystem>(
     alloc: Global,
     engine: &mut Engine<F>,

@@ -1,4 +1,5 @@
-//! What can be read of each log file, and what an opening would do with it. One file at a time is in memory.
+//! What can be read of each log file, and what an opening would do with it. One part of one file is
+//! in memory at a time.
 
 use crate::folder::Folder;
 use crate::planning::BothQueues;

@@ -49,7 +49,7 @@ impl Places<'_> {
         Ok(())
     }
 
-    /// The same for the second folder and those on the way to it, by its path from the log's folder.
+    /// The same for the second folder, by its path from the log's, and for those on the way to it.
     pub fn add_spill(&self, folder: &str, spill: &str, plan: &mut Plan) -> Result<()> {
         let alloc = self.rt.alloc();
         if !is_plain(spill) {

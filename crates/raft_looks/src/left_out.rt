@@ -40,8 +40,8 @@ enum Kinship {
 
 impl ReadFiles<'_> {
     /// Adds the folders directly inside that are left out: an opening that read their files too
-    /// would keep one of them. A copy of the log is none, nor is a folder with its own lock, which is
-    /// another log. Without such folders, a queue that is gone.
+    /// would keep one of them. A copy of the log is none, nor is a folder with its own lock, which
+    /// is another log. Without such folders, a queue that is gone.
     pub fn add_left_out(&self, plan: &mut Plan) -> Result<()> {
         let entries = match fs::read_dir(&self.rt, self.planner.folder) {
             Ok(entries) => entries,
@@ -75,7 +75,8 @@ impl ReadFiles<'_> {
         Ok(())
     }
 
-    // The number of the Append queue's first file, where files before it were dropped and the Rewrite queue has none.
+    // The number of the Append queue's first file, if files before it were dropped and the Rewrite
+    // queue has none.
     fn first_without_rewrite(&self) -> Option<u64> {
         let mut first = u64::MAX;
         for file in self.files {

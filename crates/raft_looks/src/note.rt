@@ -3,7 +3,7 @@
 use crate::faults::told;
 use crate::folder::Folder;
 use anyhow::Result;
-use raft_disk::SpanNote;
+use raft_disk::{OpenFault, SpanNote};
 use raft_opening_plan::Known;
 use raft_records::LogQueue;
 
@@ -21,10 +21,12 @@ impl Folder {
         Ok(())
     }
 
+    /// The note; none if it cannot be read.
     pub(crate) fn note_now(&self) -> Result<Option<SpanNote>> {
         match self.view.spans() {
             Ok(note) => Ok(note),
-            Err(fault) => Err(told(&self.rt, &fault)),
+            Err(OpenFault::Memory) => Err(told(&self.rt, &OpenFault::Memory)),
+            Err(_) => Ok(None),
         }
     }
 

@@ -8,8 +8,8 @@ use raft_records::{FileId, LogQueue};
 use std::alloc::AllocError;
 
 impl Planner<'_> {
-    /// A folder inside the log's with files of the log, which is not read. `doubled` is a file whose
-    /// number the log's folder has too.
+    /// A folder inside the log's with files of the log, which is not read. `doubled` is a file
+    /// whose number the log's folder has too.
     pub fn left_out_folder(
         &self,
         folder: &str,

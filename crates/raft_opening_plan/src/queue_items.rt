@@ -11,12 +11,12 @@ use raft_records::{Fault, LogQueue};
 use std::alloc::AllocError;
 
 /// Why files may be passed over.
-const UNKNOWN: &str = "a purge that was killed may have left them, or a file or a second folder \
-    is missing: which of these cannot be known";
+const UNKNOWN: &str = "a purge that was killed may have left them, or a file or a second \
+    folder is missing: which of these cannot be known";
 
 impl Planner<'_> {
-    /// The bytes that the opening cuts off a file, after a search for whole records in them. Bytes of
-    /// an earlier use of the last file hold nothing of the log: no item.
+    /// The bytes that the opening cuts off a file, after a search for whole records in them. Bytes
+    /// of an earlier use of the last file hold nothing of the log: no item.
     pub fn add_cut(&self, cut: &Cut, behind: Behind, plan: &mut Plan) -> Result<(), AllocError> {
         let (kind, cause) = match (cut.is_last, behind) {
             (true, Behind::Nothing) if cut.stale => return Ok(()),
@@ -194,33 +194,8 @@ impl Planner<'_> {
         known: Option<&Known>,
         plan: &Plan,
     ) -> Result<Item, AllocError> {
-        let Passed {
-            first,
-            last,
-            missing,
-            ..
-        } = passed;
-        let files = found.files.get(..found.passed).unwrap_or(&[]);
-        let (kind, why) = match known {
-            Some(known) if are_all_in(files, &known.left_over) => (
-                Kind::LeftOver,
-                format!(in self.alloc;
-                    "a purge had dropped them: the log begins with number {}",
-                    known.first
-                )?,
-            ),
-            Some(known) => (
-                Kind::Passed,
-                format!(in self.alloc;
-                    "number {missing} is missing after them, and the log had numbers {} to {}",
-                    known.first, known.last
-                )?,
-            ),
-            None => (
-                Kind::Passed,
-                format!(in self.alloc; "number {missing} is missing after them; {UNKNOWN}")?,
-            ),
-        };
+        let (first, last) = (passed.first, passed.last);
+        let (kind, why) = self.why_passed(found, passed.missing, known)?;
         let name = queue_name(passed.queue);
         Ok(Item {
             kind,
@@ -231,6 +206,30 @@ impl Planner<'_> {
             cause: format!(in self.alloc; "numbers {first} to {last} of queue {name}: {why}")?,
             mend: self.mend_of_passed(kind, plan)?,
         })
+    }
+
+    fn why_passed(
+        &self,
+        found: &QueueFiles,
+        missing: u64,
+        known: Option<&Known>,
+    ) -> Result<(Kind, String), AllocError> {
+        let files = found.files.get(..found.passed).unwrap_or(&[]);
+        let Some(known) = known else {
+            let why = format!(in self.alloc; "number {missing} is missing after them; {UNKNOWN}")?;
+            return Ok((Kind::Passed, why));
+        };
+        let (first, last) = (known.first, known.last);
+        if are_all_in(files, &known.left_over) {
+            let why = format!(in self.alloc;
+                "a purge had dropped them: the log begins with number {first}"
+            )?;
+            return Ok((Kind::LeftOver, why));
+        }
+        let why = format!(in self.alloc;
+            "number {missing} is missing after them, and the log had numbers {first} to {last}"
+        )?;
+        Ok((Kind::Passed, why))
     }
 
     // A folder that is left out may have the missing number.
