@@ -5,6 +5,7 @@
 mod filling;
 mod import;
 mod line_items;
+mod line_source;
 mod material;
 mod summing;
 mod tables;

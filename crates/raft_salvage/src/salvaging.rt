@@ -30,8 +30,7 @@ pub fn salvage<R: Threads + Sync>(
     if sources.is_empty() {
         bail!("{}: no log file", request.folder);
     }
-    let quiet = request.options.quiet;
-    let gathering = gather(&rt, &sources, asked.stale, quiet)?;
+    let gathering = gather(&rt, &sources, asked.stale, &request.options)?;
     tell(rt, request, &gathering)?;
     let status = if gathering.report.is_whole() {
         Status::Done

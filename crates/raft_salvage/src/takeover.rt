@@ -15,7 +15,7 @@ pub fn import_lines<R: Threads + Sync>(
     request: &Request<'_>,
     import: Import<'_>,
 ) -> Result<Status> {
-    let mut material = Material::Lines(LineImport::read(&rt, import)?);
+    let mut material = Material::Lines(LineImport::read(&rt, import, &request.options)?);
     change_by(rt, threads, request, &mut material)
 }
 
@@ -35,7 +35,7 @@ pub fn import_folder<R: Threads + Sync>(
         bail!("{folder}: no log file");
     }
     check_single(&sources)?;
-    let gathering = gather(&rt, &sources, false, request.options.quiet)?;
+    let gathering = gather(&rt, &sources, false, &request.options)?;
     let Some(status) = judge(rt, request, folder, &gathering)? else {
         return Ok(Status::Refused);
     };
