@@ -187,7 +187,7 @@ fn level_of(bytes: u64, most: u64) -> char {
     if bytes == 0 || most == 0 {
         return ' ';
     }
-    let place = u128::from(bytes.min(most)) * 7 / u128::from(most);
+    let place = bytes.min(most).saturating_mul(7) / most;
     let place = usize::try_from(place).unwrap_or(0);
     match LEVELS.get(place) {
         Some(level) => *level,

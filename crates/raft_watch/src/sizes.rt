@@ -20,7 +20,7 @@ pub(crate) fn size_text(alloc: Global, bytes: u64) -> Result<String, AllocError>
         whole /= 1024;
         unit = *next;
     }
-    let tenths = rest * 10 / 1024;
+    let tenths = rest.saturating_mul(10) / 1024;
     format!(in alloc; "{whole}.{tenths} {unit}")
 }
 
@@ -34,11 +34,10 @@ pub(crate) fn add_bar(
     let filled = if whole == 0 {
         0
     } else {
-        let part = u128::from(part.min(whole));
-        part * u128::from(width) / u128::from(whole)
+        part.min(whole).saturating_mul(width) / whole
     };
     for place in 0..width {
-        text.push(if u128::from(place) < filled { '#' } else { '.' })?;
+        text.push(if place < filled { '#' } else { '.' })?;
     }
     Ok(())
 }
