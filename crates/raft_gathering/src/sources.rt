@@ -210,7 +210,7 @@ pub(crate) fn note_need(rt: &HostRuntime, sources: &[Source], options: &Options<
     let files = sources.len();
     let text = format!(in rt.alloc();
         "{files} files of {bytes} bytes are read, and what they hold stays in memory until it is \
-        written: at most so many bytes, and about 100 for each entry and 300 for each key"
+        written: at most so many bytes, and about 200 for each entry and 500 for each key"
     );
     note_made(rt, options, text)
 }
