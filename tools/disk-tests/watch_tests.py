@@ -105,6 +105,51 @@ class Tests:
         self.expect(f"{len(dropped)} dropped, {unseen} unseen, {gone} gone", 0 < gone == len(dropped) + unseen)
         self.expect("no bytes", all(file["size"] > 0 for look in looks for file in look["dropped"]))
 
+    def groups(self):
+        """What is counted of each group is what was written of it after the first look."""
+        folder, chance, model = self.place("groups"), random.Random(2), {}
+        self.run(folder, "put", 1, "first", "value")
+        watch = self.start(folder, "watch", "--json", "--count", 6, "--groups", 1000)
+        looks = [json.loads(watch.stdout.readline())]
+        for turn in range(4):
+            pairs, entries = [], []
+            for number in range(300):
+                group, value = chance.randrange(200), "v" * chance.randrange(300)
+                counted = model.setdefault(group, {"entries": 0, "puts": 0, "deletes": 0, "commands": 0, "bytes": 0})
+                if chance.random() < 0.5:
+                    pairs.append(f"{group}\tk{turn}-{number}\t{value}\n")
+                    counted["puts"] += 1
+                    counted["bytes"] += len(f"k{turn}-{number}") + len(value)
+                else:
+                    entries.append(f"{group}\t{value}\n")
+                    counted["entries"] += 1
+                    counted["bytes"] += len(value)
+            for words, lines in ((["lines", "each", "-"], pairs), (["append", "each", "--lines", "-"], entries)):
+                ran = self.run(folder, *words, "--wait", 9, input="".join(lines).encode())
+                self.expect(f"{words}: {ran.stderr}", ran.returncode == 0)
+            group = chance.choice(list(model))
+            self.run(folder, "compact", group, 1, "--wait", 9)
+            self.run(folder, "del", group, "none", "--wait", 9)
+            model[group]["commands"] += 1
+            model[group]["deletes"] += 1
+            model[group]["bytes"] += len("none")
+        looks += [json.loads(line) for line in watch.communicate(timeout=60)[0].splitlines()]
+        found = {}
+        for look in looks:
+            for told in look["groups"]:
+                counted = found.setdefault(told["group"], dict.fromkeys(("entries", "puts", "deletes", "commands", "bytes"), 0))
+                for name in counted:
+                    counted[name] += told[name]
+        headers = {group: found.get(group, {}).get("bytes", 0) - counted["bytes"] for group, counted in model.items()}
+        # An entry through raftctl begins with its term, kind and index, of 9 bytes and more (docs/FORMAT.md).
+        for group, counted in model.items():
+            wanted, got = dict(counted), dict(found.get(group, {}))
+            wanted.pop("bytes"), got.pop("bytes", 0)
+            self.expect(f"group {group}: {got}, wanted {wanted}", got == wanted)
+            self.expect(f"bytes of {group}: {headers[group]} more", 0 <= headers[group] <= 30 * counted["entries"])
+        self.expect("other groups", set(found) <= set(model))
+        self.agrees("groups", folder, looks[-1])
+
     def plain(self):
         """Lines of words, and a folder that does not exist."""
         folder = self.place("plain")
@@ -345,6 +390,7 @@ def main():
         tests.each_line_is_json()
         tests.decodes()
         tests.imports()
+        tests.groups()
         tests.plain()
         tests.drawn()
         tests.sums(asked.keys)
