@@ -1,5 +1,5 @@
-//! What raftctl does with the contents of an open log: sums, entries that are removed from an index on, and items of lines
-//! or of other files that are written.
+//! What raftctl does with the contents of an open log: sums, entries that are removed from an index
+//! on, and items of lines or of other files that are written.
 #![tactic(auto)]
 
 mod filling;

@@ -234,7 +234,8 @@ impl Gathering {
         Ok(())
     }
 
-    // Reads a log file, and what was cut off it where it stood: what follows there was written later.
+    // Reads a log file, and what was cut off it where it stood: what follows there was written
+    // later.
     fn read_log(&mut self, rt: &HostRuntime, source: &Source, behind: &[Source]) -> Result<()> {
         let bytes = read(rt, source)?;
         let reading = self.reading_of(source, &bytes, None, is_last_log(source, behind.first()));
@@ -256,7 +257,8 @@ impl Gathering {
         Ok(self.report.files.push(file)?)
     }
 
-    // Reads a file of which the version is known from another one, where its own header doesn't tell it.
+    // Reads a file of which the version is known from another one, where its own header doesn't
+    // tell it.
     fn read_whole(
         &mut self,
         rt: &HostRuntime,

@@ -1,4 +1,5 @@
-//! The files that are read: log files, what a repair cut off them or moved aside, and files that are named.
+//! The files that are read: log files, what a repair cut off them or moved aside, and files that
+//! are named.
 
 use anyhow::{Result, anyhow, bail};
 use raft_command_line::Options;
@@ -39,8 +40,8 @@ pub struct Source {
     pub path: String,
 }
 
-/// The files of a folder and of a second one that are read, or those that are named; by queue, the Rewrite queue's
-/// first, then by number, and what was cut off by its place.
+/// The files of a folder and of a second one that are read, or those that are named; by queue, the
+/// Rewrite queue's first, then by number, and what was cut off by its place.
 pub fn sources_of(
     rt: &HostRuntime,
     folder: &str,
@@ -122,7 +123,8 @@ fn add_named(alloc: Global, folder: &str, name: &str, sources: &mut Vec<Source>)
     Ok(())
 }
 
-// Adds a file whose name begins with a log file's. What else follows that name is a copy, if the file is named.
+// Adds a file whose name begins with a log file's. What else follows that name is a copy, if the
+// file is named.
 fn add_source(
     alloc: Global,
     name: String,
