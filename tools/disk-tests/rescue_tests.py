@@ -127,7 +127,7 @@ class Tests:
         made, model = [], Model()
         for number in range(count):
             group = self.random.choice(GROUPS)
-            item = {"queue": "append", "file": 1, "offset": number, "group": group}
+            item = {"queue": "append", "number": 1, "offset": number, "group": group}
             held = model.entries[group]
             kind = self.random.choice(["entry"] * 6 + ["put"] * 4 + ["delete", "compact", "clean"])
             if kind == "clean" and self.random.random() < 0.8:

@@ -13,14 +13,15 @@ use std::mem;
 /// A batch takes so many bytes before it is written, unless it has to stay whole.
 const BATCH_BYTES: usize = 1024 * 1024;
 
-/// Items that are to be written. Entries that don't touch those of their group replace them, as they do where an
-/// opening reads them.
+/// Items that are to be written. Entries that don't touch those of their group replace them, as
+/// they do where an opening reads them.
 pub struct Filling {
     alloc: Global,
     batch: LogBatch,
     /// How many bytes the batch has, about.
     bytes: usize,
-    /// The first and the last index of groups, where the batch has changed them; nothing for a group without entries.
+    /// The first and the last index of groups, where the batch has changed them; nothing for a
+    /// group without entries.
     spans: BTreeMap<u64, Option<(u64, u64)>>,
     /// Entries of one group that follow one another.
     group: u64,
@@ -205,7 +206,8 @@ impl Filling {
         Ok(())
     }
 
-    /// Writes all that is left, and then the groups' numbers where they are greater than those that stand.
+    /// Writes all that is left, and then the groups' numbers where they are greater than those that
+    /// stand.
     pub fn finish<F: FileSystem>(&mut self, engine: &mut Engine<F>, sync: bool) -> Result<()> {
         self.write(engine)?;
         for _ in 0..self.numbers.len() {

@@ -1,20 +1,25 @@
 //! Batches of lines that are written to a log.
 
 use crate::filling::Filling;
-use crate::line_items::{Content, LineItem, Place, marks_of, read_items};
-use anyhow::Result;
-use raft_command_line::{Import, Request};
-use raft_console::{Output, Progress, Status, file_or_input, note_made, or_failure};
+use crate::line_items::{Content, LineItem, Place, add_mark};
+use crate::line_source::LineSource;
+use anyhow::{Result, anyhow};
+use raft_command_line::{Import, Options, Request};
+use raft_console::{Output, Progress, Status, note_made, or_failure};
 use raft_env::FileSystem;
 use raft_inspect::{Filter, ItemKind, Word};
 use raft_log_engine::Engine;
 use raft_records::Fault;
 use raft_whole_records::Marks;
-use std::mem;
 
-/// Items of lines, and which of them are written.
+/// After how many lines it is told how many were checked, if a second went by.
+const COUNTED: u64 = 1024;
+
+/// Lines whose items are written, and which of them.
 pub struct LineImport {
-    items: Vec<LineItem>,
+    lines: LineSource,
+    /// How many items they have.
+    count: u64,
     marks: Marks,
     filter: Filter,
 }
@@ -23,7 +28,8 @@ pub struct LineImport {
 impl Drop for LineImport {
     fn drop(self) {
         let LineImport {
-            items: _items,
+            lines: _lines,
+            count: _,
             marks: _marks,
             filter: _,
         } = self;
@@ -31,26 +37,44 @@ impl Drop for LineImport {
 }
 
 impl LineImport {
-    /// The lines of a file that `dump --json` printed, or of standard input. It fails at the first line that can't be
-    /// read, and says which.
-    pub fn read(rt: &HostRuntime, import: Import<'_>) -> Result<LineImport> {
+    /// Checks the lines of a file that `dump --json` printed, or of standard input. It fails at the
+    /// first line that cannot be read, and names it. Of a file one line is in memory at a time, of
+    /// standard input all bytes.
+    pub fn read(rt: &HostRuntime, import: Import<'_>, options: &Options<'_>) -> Result<LineImport> {
         let path = import.file.unwrap_or("-");
-        let text = file_or_input(rt, path)?;
-        match read_items(rt.alloc(), &text) {
-            Ok(items) => {
-                let marks = marks_of(rt.alloc(), &items)?;
-                Ok(LineImport {
-                    items,
-                    marks,
-                    filter: filter_of(import),
-                })
-            }
+        let mut read = LineImport {
+            lines: LineSource::open(rt, path)?,
+            count: 0,
+            marks: Marks::new(rt.alloc()),
+            filter: filter_of(import),
+        };
+        match read.check(rt, options) {
+            Ok(()) => Ok(read),
             Err(error) => Err(error.context(path)),
         }
     }
 
-    /// Writes the batches of the lines, one for each record, in their order, and prints how many items they have. If a
-    /// line says that a file could not be read further, that is told, and the status is 4. The items are gone then.
+    // Reads all lines, and notes the marks among them.
+    fn check(&mut self, rt: &HostRuntime, options: &Options<'_>) -> Result<()> {
+        let mut progress = Progress::of(*rt, options)?;
+        let mut items = self.lines.items(rt)?;
+        for _ in 0..u64::MAX {
+            let Some(item) = items.next()? else {
+                break;
+            };
+            add_mark(&item, &mut self.marks)?;
+            self.count = self.count.saturating_add(1);
+            if self.count % COUNTED == 0 {
+                let text = format!(in rt.alloc(); "{} lines checked", self.count)?;
+                progress.begin(text.as_str())?;
+            }
+        }
+        Ok(())
+    }
+
+    /// Writes the batches of the lines, one for each record, in their order, and prints how many
+    /// items they have. If a line says that a file could not be read further, that is told, and the
+    /// status is 4.
     pub fn write<F: FileSystem>(
         &mut self,
         rt: &HostRuntime,
@@ -59,16 +83,18 @@ impl LineImport {
         out: &mut Output,
     ) -> Result<Status> {
         let mut filling = Filling::new(rt.alloc());
-        let mut progress = Progress::new(*rt, request.options.quiet)?;
-        let items = mem::replace(&mut self.items, Vec::new(rt.alloc()));
-        let whole = items.len() as u64;
+        let mut progress = Progress::of(*rt, &request.options)?;
         let mut state = Reading {
             place: None,
             is_left_out: false,
             unread: 0,
         };
-        for (place, item) in items.into_iter().enumerate() {
-            progress.at("items imported", place as u64, whole)?;
+        let mut items = self.lines.items(rt)?;
+        for place in 0..self.count {
+            let Some(item) = items.next()? else {
+                return Err(anyhow!("the lines changed while they were imported"));
+            };
+            progress.at("items imported", place, self.count)?;
             self.add(rt, engine, item, request, &mut state, &mut filling)?;
         }
         filling.finish(engine, request.sync)?;

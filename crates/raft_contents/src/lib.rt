@@ -1,10 +1,11 @@
-//! What raftctl does with the contents of an open log: sums, entries that are removed from an index on, and items of lines
-//! or of other files that are written.
+//! What raftctl does with the contents of an open log: sums, entries that are removed from an index
+//! on, and items of lines or of other files that are written.
 #![tactic(auto)]
 
 mod filling;
 mod import;
 mod line_items;
+mod line_source;
 mod material;
 mod summing;
 mod tables;

@@ -53,21 +53,8 @@ impl LineItem {
     }
 }
 
-/// The items of all lines. It fails at the first line that can't be read, and says which.
-pub(crate) fn read_items(alloc: Global, text: &[u8]) -> Result<Vec<LineItem>> {
-    let mut items = Vec::new(alloc);
-    for (number, line) in text.split(|byte| *byte == b'\n').enumerate() {
-        if !line.is_empty() {
-            match read_item(alloc, line) {
-                Ok(item) => items.push(item)?,
-                Err(error) => return Err(anyhow!("line {}: {error}", number.saturating_add(1))),
-            }
-        }
-    }
-    Ok(items)
-}
-
-fn read_item(alloc: Global, line: &[u8]) -> Result<LineItem> {
+/// The item of a line.
+pub(crate) fn read_item(alloc: Global, line: &[u8]) -> Result<LineItem> {
     let object = read_object(alloc, line)?;
     let place = place_in(&object);
     if let Some(error) = object.get("error").and_then(Value::as_str) {
@@ -125,22 +112,21 @@ fn place_in(object: &Value) -> Option<Place> {
         "append" => false,
         _ => return None,
     };
+    // Version 0.2 wrote the number as `file`.
+    let file = object.get("number").or(object.get("file"))?;
     Some(Place {
         is_rewrite,
-        file: object.get("file").and_then(Value::as_u64)?,
+        file: file.as_u64()?,
         offset: object.get("offset").and_then(Value::as_u64)?,
     })
 }
 
-/// The marks of the Rewrite queue's batches.
-pub(crate) fn marks_of(alloc: Global, items: &[LineItem]) -> Result<Marks, AllocError> {
-    let mut marks = Marks::new(alloc);
-    for item in items {
-        if let (Content::Mark(mark), Some(place)) = (&item.content, item.place) {
-            if place.is_rewrite {
-                marks.add(item.group, *mark)?;
-            }
+/// Adds the mark of an item, if it has one and its record is of the Rewrite queue.
+pub(crate) fn add_mark(item: &LineItem, marks: &mut Marks) -> Result<(), AllocError> {
+    if let (Content::Mark(mark), Some(place)) = (&item.content, item.place) {
+        if place.is_rewrite {
+            marks.add(item.group, *mark)?;
         }
     }
-    Ok(marks)
+    Ok(())
 }

@@ -26,7 +26,7 @@ impl TableImport<'_> {
         engine: &mut Engine<F>,
         request: &Request<'_>,
     ) -> Result<Status> {
-        let mut progress = Progress::new(*rt, request.options.quiet)?;
+        let mut progress = Progress::of(*rt, &request.options)?;
         let mut filling = Filling::new(rt.alloc());
         let whole = self.tables.groups.len() as u64;
         let mut done = 0u64;

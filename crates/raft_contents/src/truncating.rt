@@ -1,4 +1,5 @@
-//! Entries that are removed from an index on, as a Raft node does where its log differs from the leader's.
+//! Entries that are removed from an index on, as a Raft node does where its log differs from the
+//! leader's.
 
 use anyhow::Result;
 use raft_console::{Output, or_failure};
@@ -8,8 +9,8 @@ use raft_log_engine::{Engine, LogBatch};
 use raft_records::{EntryIndex, Fault};
 use std::alloc::Global;
 
-/// Removes the entries of a group from an index on, in one batch, and prints how many they were and the last index
-/// that stays.
+/// Removes the entries of a group from an index on, in one batch, and prints how many they were and
+/// the last index that stays.
 pub fn truncate<F: FileSystem>(
     alloc: Global,
     engine: &mut Engine<F>,
@@ -27,8 +28,8 @@ pub fn truncate<F: FileSystem>(
     }
 }
 
-// A group's entries end with the ones that were written last: so the entry before the index is written again. Where
-// none stays, all are compacted away.
+// A group's entries end with the ones that were written last: so the entry before the index is
+// written again. Where none stays, all are compacted away.
 fn truncated<F: FileSystem>(
     alloc: Global,
     engine: &mut Engine<F>,

@@ -1,9 +1,10 @@
 //! Reads all whole records of files into tables, and notes what could not be read.
 
 use crate::report::{FileRead, Missing, Report, UnreadPlace, entries_of};
-use crate::sources::{Part, Source, read};
+use crate::sources::{Part, Source, note_need, read};
 use crate::tables::Tables;
 use anyhow::Result;
+use raft_command_line::Options;
 use raft_console::{Progress, or_failure};
 use raft_files::LogFileFormat;
 use raft_records::{Fault, FileId, LogQueue, Version};
@@ -16,6 +17,7 @@ pub struct Gathering {
     /// Whether records are taken that an earlier use of a file left behind.
     stale: bool,
     marks: Marks,
+    progress: Progress,
     pub tables: Tables,
     pub report: Report,
 }
@@ -27,6 +29,7 @@ impl Drop for Gathering {
             alloc: _,
             stale: _,
             marks: _marks,
+            progress: _progress,
             tables: _tables,
             report: _report,
         } = self;
@@ -43,14 +46,21 @@ struct Bytes<'a> {
     is_last: bool,
 }
 
-/// Reads these files, which are in their order.
-pub fn gather(rt: &HostRuntime, sources: &[Source], stale: bool, quiet: bool) -> Result<Gathering> {
+/// Reads these files, which are in their order. One file is in memory at a time, and what the files
+/// hold stays there. If that is much, a note says how much before.
+pub fn gather(
+    rt: &HostRuntime,
+    sources: &[Source],
+    stale: bool,
+    options: &Options<'_>,
+) -> Result<Gathering> {
     let alloc = rt.alloc();
-    let mut progress = Progress::new(*rt, quiet)?;
+    note_need(rt, sources, options)?;
     let mut gathering = Gathering {
         alloc,
         stale,
         marks: Marks::new(alloc),
+        progress: Progress::of(*rt, options)?,
         tables: Tables::new(alloc),
         report: Report::new(alloc),
     };
@@ -60,7 +70,9 @@ pub fn gather(rt: &HostRuntime, sources: &[Source], stale: bool, quiet: bool) ->
     }
     let mut before: Option<FileId> = None;
     for (place, source) in sources.iter().enumerate() {
-        progress.at("files read", place as u64, sources.len() as u64)?;
+        gathering
+            .progress
+            .at("files read", place as u64, sources.len() as u64)?;
         if before != Some(source.id) {
             gathering.note_missing(before, source.id)?;
             before = Some(source.id);
@@ -123,6 +135,7 @@ fn record_in(found: Found) -> Option<WholeRecord> {
         Found::Unread(_gap) => None,
         Found::Zeros(_len) => None,
         Found::Stale(_len) => None,
+        Found::Searching => None,
     }
 }
 
@@ -221,7 +234,8 @@ impl Gathering {
         Ok(())
     }
 
-    // Reads a log file, and what was cut off it where it stood: what follows there was written later.
+    // Reads a log file, and what was cut off it where it stood: what follows there was written
+    // later.
     fn read_log(&mut self, rt: &HostRuntime, source: &Source, behind: &[Source]) -> Result<()> {
         let bytes = read(rt, source)?;
         let reading = self.reading_of(source, &bytes, None, is_last_log(source, behind.first()));
@@ -236,16 +250,15 @@ impl Gathering {
                 break;
             }
             let end = usize::try_from(place).unwrap_or(usize::MAX);
-            let read = self.read_records(reading, &mut scanner, end, &mut file);
-            or_failure(read, source.name.as_str())?;
+            self.read_records(reading, &mut scanner, end, &mut file)?;
             self.read_whole(rt, cut, reading.signs.version)?;
         }
-        let read = self.read_records(reading, &mut scanner, usize::MAX, &mut file);
-        or_failure(read, source.name.as_str())?;
+        self.read_records(reading, &mut scanner, usize::MAX, &mut file)?;
         Ok(self.report.files.push(file)?)
     }
 
-    // Reads a file of which the version is known from another one, where its own header doesn't tell it.
+    // Reads a file of which the version is known from another one, where its own header doesn't
+    // tell it.
     fn read_whole(
         &mut self,
         rt: &HostRuntime,
@@ -257,8 +270,7 @@ impl Gathering {
         let begin = begin_of(&bytes, source.part);
         let mut scanner = RecordScanner::new(self.alloc, &bytes, reading.signs, begin);
         let mut file = FileRead::new(source.name.clone()?);
-        let read = self.read_records(reading, &mut scanner, usize::MAX, &mut file);
-        or_failure(read, source.name.as_str())?;
+        self.read_records(reading, &mut scanner, usize::MAX, &mut file)?;
         Ok(self.report.files.push(file)?)
     }
 
@@ -288,23 +300,41 @@ impl Gathering {
         scanner: &mut RecordScanner<'_>,
         end: usize,
         file: &mut FileRead,
-    ) -> Result<(), Fault> {
-        for _ in 0..=reading.bytes.len() {
+    ) -> Result<()> {
+        let name = reading.source.name.as_str();
+        let whole = reading.bytes.len();
+        for _ in 0..=whole {
             let place = scanner.place();
             if place >= end {
                 break;
             }
-            match scanner.next()? {
-                Some(Found::Record(record)) => self.add_record(reading, &record, file)?,
-                Some(Found::Unread(gap)) => self.add_gap(reading, place, &gap)?,
-                Some(Found::Stale(len)) => {
-                    file.stale = file.stale.saturating_add(len as u64);
-                }
-                Some(Found::Zeros(_)) => {}
-                None => break,
-            }
+            let searched = scanner.searched() as u64;
+            self.progress.within(name, searched, whole as u64)?;
+            let found = or_failure(scanner.next(), name)?;
+            let Some(found) = found else {
+                break;
+            };
+            or_failure(self.add_found(reading, place, found, file), name)?;
         }
         Ok(())
+    }
+
+    fn add_found(
+        &mut self,
+        reading: Bytes<'_>,
+        place: usize,
+        found: Found,
+        file: &mut FileRead,
+    ) -> Result<(), Fault> {
+        match found {
+            Found::Record(record) => self.add_record(reading, &record, file),
+            Found::Unread(gap) => self.add_gap(reading, place, &gap),
+            Found::Stale(len) => {
+                file.stale = file.stale.saturating_add(len as u64);
+                Ok(())
+            }
+            Found::Zeros(_) | Found::Searching => Ok(()),
+        }
     }
 
     fn add_record(

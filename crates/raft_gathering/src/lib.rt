@@ -1,4 +1,5 @@
-//! Reads all whole records of files into tables of their groups, and reports what could not be read.
+//! Reads all whole records of files into tables of their groups, and reports what could not be
+//! read.
 #![tactic(auto)]
 
 mod gathering;

@@ -77,7 +77,8 @@ impl Report {
         self.missing.is_empty() && self.unread.iter().all(|place| place.is_tail)
     }
 
-    /// Prints a line for each file, for each place that could not be read, and for each missing number.
+    /// Prints a line for each file, for each place that could not be read, and for each missing
+    /// number.
     pub fn print(&self, out: &mut Output) -> Result<()> {
         for file in &self.files {
             out.named(&[

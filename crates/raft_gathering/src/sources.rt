@@ -1,6 +1,9 @@
-//! The files that are read: log files, what a repair cut off them or moved aside, and files that are named.
+//! The files that are read: log files, what a repair cut off them or moved aside, and files that
+//! are named.
 
 use anyhow::{Result, anyhow, bail};
+use raft_command_line::Options;
+use raft_console::note_made;
 use raft_disk::{FolderView, OpenFault};
 use raft_dump::log_file;
 use raft_looks::told;
@@ -8,6 +11,9 @@ use raft_records::{FileId, LogQueue};
 use std::alloc::Global;
 use std::fs;
 use std::io::ErrorKind;
+
+/// From how many bytes on it is told that what the files hold stays in memory.
+const MUCH: u64 = 64 * 1024 * 1024;
 
 /// How many bytes the name of a log file has.
 const NAME_LEN: usize = 24;
@@ -34,8 +40,8 @@ pub struct Source {
     pub path: String,
 }
 
-/// The files of a folder and of a second one that are read, or those that are named; by queue, the Rewrite queue's
-/// first, then by number, and what was cut off by its place.
+/// The files of a folder and of a second one that are read, or those that are named; by queue, the
+/// Rewrite queue's first, then by number, and what was cut off by its place.
 pub fn sources_of(
     rt: &HostRuntime,
     folder: &str,
@@ -117,7 +123,8 @@ fn add_named(alloc: Global, folder: &str, name: &str, sources: &mut Vec<Source>)
     Ok(())
 }
 
-// Adds a file whose name begins with a log file's. What else follows that name is a copy, if the file is named.
+// Adds a file whose name begins with a log file's. What else follows that name is a copy, if the
+// file is named.
 fn add_source(
     alloc: Global,
     name: String,
@@ -188,4 +195,24 @@ pub(crate) fn read(rt: &HostRuntime, source: &Source) -> Result<Vec<u8>> {
         Ok(bytes) => Ok(bytes),
         Err(e) => Err(anyhow!("{e}").context(format_args!("{}", source.name))),
     }
+}
+
+/// Tells how many bytes the files have if they are many: so much memory may be needed for what they
+/// hold, and more for what is known of each entry and key.
+pub(crate) fn note_need(rt: &HostRuntime, sources: &[Source], options: &Options<'_>) -> Result<()> {
+    let mut bytes = 0u64;
+    for source in sources {
+        if let Ok(metadata) = fs::metadata(rt, source.path.as_str()) {
+            bytes = bytes.saturating_add(metadata.len());
+        }
+    }
+    if bytes < MUCH {
+        return Ok(());
+    }
+    let files = sources.len();
+    let text = format!(in rt.alloc();
+        "{files} files of {bytes} bytes are read, and what they hold stays in memory until it is \
+        written: at most so many bytes, and about 200 for each entry and 500 for each key"
+    );
+    note_made(rt, options, text)
 }

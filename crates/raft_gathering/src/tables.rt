@@ -1,4 +1,5 @@
-//! What the records that were read stand for: of each group its entries, with their gaps, and its keys.
+//! What the records that were read stand for: of each group its entries, with their gaps, and its
+//! keys.
 
 use raft_records::{Command, EntryIndex, Fault, KeyValue, LogItem, LogItemContent};
 use raft_whole_records::{WholeRecord, is_mark_key};
@@ -99,7 +100,8 @@ impl Tables {
         Ok(())
     }
 
-    /// Applies what is known of a record of which the entries can't be read: it removed entries, or changed keys.
+    /// Applies what is known of a record of which the entries can't be read: it removed entries, or
+    /// changed keys.
     pub fn apply_lost(&mut self, items: &[LogItem]) -> Result<(), Fault> {
         for item in items {
             let group = self.group(item.raft_group_id)?;

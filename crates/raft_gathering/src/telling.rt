@@ -5,9 +5,9 @@ use anyhow::Result;
 use raft_console::Output;
 use raft_inspect::Word;
 
-/// Prints a line for each group: the entries that a Raft node can use, which are those behind the last gap, and its
-/// keys. Lines behind it name the indexes that are missing, those that are left out, and the keys whose values may be
-/// older than what was lost.
+/// Prints a line for each group: the entries that a Raft node can use, which are those behind the
+/// last gap, and its keys. Lines behind it name the indexes that are missing, those that are left
+/// out, and the keys whose values may be older than what was lost.
 pub fn print_groups(tables: &Tables, out: &mut Output) -> Result<()> {
     for (number, group) in tables.groups.iter() {
         if group.runs.is_empty() && group.keys.is_empty() {

@@ -11,10 +11,11 @@ use std::fs::{self, File};
 use std::io::{self, ErrorKind};
 use std::thread::Threads;
 
-/// Reads every whole record of the request's folder, or of the files that are named, and writes what they stand for
-/// into a new folder. It prints how many records each file has, what could not be read and why, and of each group what
-/// came back. Nothing is changed in the request's folder. The new log is made under the name `TARGET.part`, and gets
-/// its own name once it is whole and synced.
+/// Reads every whole record of the request's folder, or of the files that are named, and writes
+/// what they stand for into a new folder. It prints how many records each file has, what could not
+/// be read and why, and of each group what came back. Nothing is changed in the request's folder.
+/// The new log is made under the name `TARGET.part`, and gets its own name once it is whole and
+/// synced.
 pub fn salvage<R: Threads + Sync>(
     rt: HostRuntime,
     threads: &R,
@@ -30,8 +31,7 @@ pub fn salvage<R: Threads + Sync>(
     if sources.is_empty() {
         bail!("{}: no log file", request.folder);
     }
-    let quiet = request.options.quiet;
-    let gathering = gather(&rt, &sources, asked.stale, quiet)?;
+    let gathering = gather(&rt, &sources, asked.stale, &request.options)?;
     tell(rt, request, &gathering)?;
     let status = if gathering.report.is_whole() {
         Status::Done

@@ -8,20 +8,22 @@ use raft_contents::{LineImport, Material, TableImport, filter_of};
 use raft_gathering::{Gathering, Part, Source, gather, sources_of};
 use std::thread::Threads;
 
-/// Writes the batches of lines that `dump --json` printed, in their order. Nothing is written if a line can't be read.
+/// Writes the batches of lines that `dump --json` printed, in their order. Nothing is written if a
+/// line can't be read.
 pub fn import_lines<R: Threads + Sync>(
     rt: HostRuntime,
     threads: &R,
     request: &Request<'_>,
     import: Import<'_>,
 ) -> Result<Status> {
-    let mut material = Material::Lines(LineImport::read(&rt, import)?);
+    let mut material = Material::Lines(LineImport::read(&rt, import, &request.options)?);
     change_by(rt, threads, request, &mut material)
 }
 
-/// Writes what another folder's log files stand for, whose entries may be compressed by LZ4. Where more of them can't
-/// be read than the end of a queue, nothing is done without `--cut`, and the status is 7; where the end of a queue
-/// can't be read it is left out and told, and the status is 4.
+/// Writes what another folder's log files stand for, whose entries may be compressed by LZ4. Where
+/// more of them can't be read than the end of a queue, nothing is done without `--cut`, and the
+/// status is 7; where the end of a queue can't be read it is left out and told, and the status is
+/// 4.
 pub fn import_folder<R: Threads + Sync>(
     rt: HostRuntime,
     threads: &R,
@@ -35,7 +37,7 @@ pub fn import_folder<R: Threads + Sync>(
         bail!("{folder}: no log file");
     }
     check_single(&sources)?;
-    let gathering = gather(&rt, &sources, false, request.options.quiet)?;
+    let gathering = gather(&rt, &sources, false, &request.options)?;
     let Some(status) = judge(rt, request, folder, &gathering)? else {
         return Ok(Status::Refused);
     };

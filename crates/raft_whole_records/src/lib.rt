@@ -1,4 +1,5 @@
-//! Finds the whole records in the bytes of a log file, also behind broken ones, and decompresses their entries.
+//! Finds the whole records in the bytes of a log file, also behind broken ones, and decompresses
+//! their entries.
 #![tactic(auto)]
 
 mod block;

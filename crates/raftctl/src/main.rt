@@ -3,11 +3,12 @@
 
 use anyhow::{Result, bail};
 use clap::Error;
-use raft_command_line::{Request, Verb, completion_script, parse};
+use raft_command_line::{Request, Verb, arrange, completion_script, parse, printable};
 use raft_commands::{change, look};
-use raft_console::{Status, print_bytes, take_closed_streams, tell};
+use raft_console::{Status, print_bytes, take_closed_streams, tell, tell_file_limit};
 use raft_offline::{fork_folder, print_settings, settings_of};
 use raft_salvage::{import_folder, import_lines, salvage};
+use raft_watch::watch;
 use std::env;
 use std::process::ExitCode;
 use std::thread::Threads;
@@ -31,7 +32,7 @@ fn main(rt: HostRuntime) -> ExitCode {
             Ok(status) => ExitCode::from(status.code()),
             Err(error) => failed(&rt, json, &error),
         },
-        Err(error) => misused(&rt, &error),
+        Err(error) => misused(&rt, json, &error),
     }
 }
 
@@ -44,6 +45,7 @@ fn words(rt: &HostRuntime) -> Result<Vec<String>> {
     for word in args {
         words.push(word)?;
     }
+    arrange(rt.alloc(), &mut words)?;
     Ok(words)
 }
 
@@ -68,16 +70,32 @@ fn failed(rt: &HostRuntime, json: bool, error: &anyhow::Error) -> ExitCode {
 }
 
 // Help is asked for in the same way, and prints with status 0.
-fn misused(rt: &HostRuntime, error: &Error) -> ExitCode {
-    match error.print(rt) {
+fn misused(rt: &HostRuntime, json: bool, error: &Error) -> ExitCode {
+    match print_misuse(rt, json, error) {
         Ok(()) => ExitCode::from(error.exit_code() as u8),
         Err(_) => ExitCode::FAILURE,
     }
 }
 
+fn print_misuse(rt: &HostRuntime, json: bool, error: &Error) -> Result<()> {
+    if !error.use_stderr() {
+        return Ok(error.print(rt)?);
+    }
+    let text = format!(in rt.alloc(); "{error}")?;
+    if json {
+        return tell(rt, json, "error", text.trim_end());
+    }
+    for line in text.lines() {
+        let line = printable(rt.alloc(), line)?;
+        eprintln!(rt; "{line}")?;
+    }
+    Ok(())
+}
+
 fn run<R: Threads + Sync>(rt: HostRuntime, threads: &R, request: Request<'_>) -> Result<Status> {
     let settings = settings_of(&rt, &request)?;
     let request = request.over(&settings);
+    tell_file_limit(&rt, &request.options)?;
     match &request.verb {
         Verb::Look(what) => look(rt, threads, &request, *what),
         Verb::Settings => print_settings(&rt, &request.options),
@@ -87,6 +105,7 @@ fn run<R: Threads + Sync>(rt: HostRuntime, threads: &R, request: Request<'_>) ->
             None => import_lines(rt, threads, &request, *import),
         },
         Verb::Salvage(asked) => salvage(rt, threads, &request, asked),
+        Verb::Watch(asked) => watch(rt, &request, *asked),
         _ => change(rt, threads, &request),
     }
 }
