@@ -66,6 +66,7 @@ static void nothing(raftlog *log) {
     CHECK(raftlog_write_once(log, batch, NULL, &number, 1, true) == RAFTLOG_INVALID);
     CHECK(raftlog_write_once(log, batch, &number, NULL, 1, true) == RAFTLOG_INVALID);
     CHECK(raftlog_write_once(log, batch, NULL, NULL, 0, true) == RAFTLOG_INVALID);
+    CHECK(raftlog_write_once(log, batch, &number, &number, (size_t)1 << 61, true) == RAFTLOG_INVALID);
     CHECK(raftlog_sync(NULL) == RAFTLOG_INVALID && raftlog_compact_to(NULL, 1, 1, NULL) == RAFTLOG_INVALID);
     CHECK(raftlog_get(log, 1, "kept", 4, NULL) == RAFTLOG_INVALID && raftlog_get(NULL, 1, "kept", 4, &bytes) == RAFTLOG_INVALID);
     CHECK(raftlog_get(log, 1, NULL, 1, &bytes) == RAFTLOG_INVALID && raftlog_get_entry(log, 1, 5, NULL) == RAFTLOG_INVALID);

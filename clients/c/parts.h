@@ -45,6 +45,7 @@ int32_t raft_c_scan(raft_c_handle *, uint64_t, const uint8_t *, size_t, const ui
 int32_t raft_c_groups(raft_c_handle *, uint8_t *, size_t, uint64_t *);
 uint64_t raft_c_answer(raft_c_handle *, uint8_t *, size_t);
 void raft_c_numbers(raft_c_handle *, uint64_t *, uint64_t *);
+void raft_c_counts(raft_c_handle *, uint64_t *, uint64_t *, uint64_t *);
 
 /* What changes a log; from the first rewrite on each is a round of its own. */
 enum parts_kind {
@@ -133,6 +134,7 @@ struct raftlog {
         _Atomic uint64_t writes, longest_sync_ns, sync_times[RAFTLOG_TIMES];
         _Atomic uint64_t next_files, recycled_files, deleted_files, files;
         _Atomic uint64_t purges, purge_ns, longest_purge_ns;
+        _Atomic uint64_t index_bytes, block_hits, block_misses; /* by `raftlog_stats` */
     } counts;
     pthread_mutex_t lock;
     raft_c_handle handle; /* of a log, from its opening to its close */

@@ -157,40 +157,6 @@ int raftlog_close(raftlog *log) {
     return code;
 }
 
-/* In this turn, so that no part is greater than its whole. */
-static void copy_counts(const raftlog *log, raftlog_counts *to) {
-    const struct parts_counts *from = &log->counts;
-    for (int i = 0; i < RAFTLOG_TIMES; i++) to->sync_times[i] = from->sync_times[i];
-    to->longest_sync_ns = from->longest_sync_ns;
-    to->longest_purge_ns = from->longest_purge_ns;
-    to->purge_ns = from->purge_ns;
-    to->purges = from->purges;
-    to->recycled_files = from->recycled_files;
-    to->next_files = from->next_files;
-    to->deleted_files = from->deleted_files;
-    to->files = from->files;
-    to->sync_ns = from->sync_ns;
-    to->batches = from->batches;
-    to->synced_changes = from->synced_changes;
-    to->largest_round = from->largest_round;
-    to->changes = from->changes;
-    to->rounds = log->done;
-    to->syncs = from->syncs;
-    to->writes = from->writes;
-    to->bytes = from->bytes;
-}
-
-int raftlog_stats(raftlog *log, raftlog_counts *counts, size_t size) {
-    raftlog_counts all = {0};
-    if (!log) return RAFTLOG_INVALID;
-    if (!counts || !size) return parts_fail(log, RAFTLOG_INVALID, NULL);
-    if (!parts_begin_read(log)) return parts_fail_closed(log);
-    copy_counts(log, &all);
-    parts_end_read(log);
-    parts_copy_sized(counts, size, &all, sizeof all);
-    return RAFTLOG_OK;
-}
-
 /* ---- changes */
 
 static bool is_lacking(const void *bytes, size_t len) { return !bytes && len; }
@@ -215,7 +181,7 @@ int raftlog_write_bytes(raftlog *log, const void *bytes, size_t len, bool sync) 
 int raftlog_write_once_bytes(raftlog *log, const void *bytes, size_t len, const uint64_t *groups,
                              const uint64_t *numbers, size_t count, bool sync) {
     bool lacks = is_lacking(bytes, len) || is_lacking(groups, count) || is_lacking(numbers, count);
-    if (!log || lacks) return refuse(log, RAFTLOG_INVALID);
+    if (!log || lacks || count > PTRDIFF_MAX / sizeof *groups) return refuse(log, RAFTLOG_INVALID);
     struct parts_numbers once = {groups, numbers, count};
     struct parts_change write = {.kind = PARTS_WRITE_ONCE,
                                  .bytes = parts_some(bytes),

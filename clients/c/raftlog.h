@@ -215,8 +215,8 @@ enum { RAFTLOG_TIMES = 24 };
 
 /* What a log has done since it was opened, in rounds that are over. On average changes / rounds changes share a round,
  * and a sync takes sync_ns / syncs. A purge and a next file have syncs of their own; without these synced_changes /
- * syncs changes share a sync. Hits of the block cache, the memory of the index and the files that are kept for reuse
- * are not counted. A later version may add numbers at the end. */
+ * syncs changes share a sync. The files that are kept for reuse are not counted. A later version may add numbers at the
+ * end. */
 typedef struct {
     uint64_t rounds;
     uint64_t changes;        /* writes, syncs, compactions and purges in these rounds */
@@ -236,11 +236,16 @@ typedef struct {
     uint64_t purge_ns;       /* time of these calls, without their wait for a round */
     uint64_t longest_purge_ns;
     uint64_t files;          /* files in the folder now, reserved ones too; 0 in memory */
+    uint64_t index_bytes;    /* memory of the index now: places of entries, rows of keys and groups, without the bytes
+                              * of keys and values */
+    uint64_t block_hits;     /* reads of an entry whose block was kept (the last 16 are), purges' reads too */
+    uint64_t block_misses;   /* reads of an entry that had to read its block */
 } raftlog_counts;
 
 /* Stores the numbers. `size` is sizeof(raftlog_counts) of the header with which the program was built. So an older
  * program gets the numbers that it knows, and a newer one 0 for those that the library does not count. Each number is
- * that of some moment of the call. It fails as RAFTLOG_INVALID if `size` is 0. */
+ * that of some moment of the call. The last three are read in turn with other calls, a step for each group; if another
+ * call is inside the log for more than 10 ms, they are as before. It fails as RAFTLOG_INVALID if `size` is 0. */
 int raftlog_stats(raftlog *log, raftlog_counts *counts, size_t size);
 
 /* What a code means. The text is constant. */

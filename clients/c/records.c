@@ -4,15 +4,16 @@
 
 enum { HEAD = PARTS_RECORD_HEADER, CHECKSUM = 4 };
 
+/* By half bytes: a constant table, which threads share. */
 static uint32_t crc_of(const uint8_t *at, size_t len) {
-    static uint32_t table[256];
-    for (uint32_t i = 0; !table[255] && i < 256; i++) {
-        uint32_t value = i;
-        for (int bit = 0; bit < 8; bit++) value = value & 1 ? 0xEDB88320u ^ value >> 1 : value >> 1;
-        table[i] = value;
-    }
+    static const uint32_t table[16] = {0x00000000, 0x1DB71064, 0x3B6E20C8, 0x26D930AC, 0x76DC4190, 0x6B6B51F4,
+                                       0x4DB26158, 0x5005713C, 0xEDB88320, 0xF00F9344, 0xD6D6A3E8, 0xCB61B38C,
+                                       0x9B64C2B0, 0x86D3D2D4, 0xA00AE278, 0xBDBDF21C};
     uint32_t crc = 0xFFFFFFFFu;
-    for (size_t i = 0; i < len; i++) crc = table[(crc ^ at[i]) & 255] ^ crc >> 8;
+    for (size_t i = 0; i < len; i++) {
+        crc = table[(crc ^ at[i]) & 15] ^ crc >> 4;
+        crc = table[(crc ^ at[i] >> 4) & 15] ^ crc >> 4;
+    }
     return ~crc;
 }
 

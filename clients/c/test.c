@@ -385,6 +385,28 @@ static void counts(const char *folder) {
     CHECK(known->recycled_files + known->deleted_files > 0 && !raftlog_close(log));
 }
 
+/* The memory of the index, and reads of a block that is kept from the first one on */
+static void inner_counts(const char *folder) {
+    enum { ENTRIES = 1000 };
+    raftlog_entry entries[ENTRIES];
+    raftlog_counts before, after;
+    raftlog_bytes bytes = {0};
+    raftlog_batch *batch = raftlog_batch_new();
+    char place[400];
+    snprintf(place, sizeof place, "%s/inner", folder);
+    raftlog *log = open_at(place);
+    for (uint64_t i = 0; i < ENTRIES; i++) entries[i] = (raftlog_entry){i + 1, (const uint8_t *)"some bytes", 10};
+    CHECK(!raftlog_stats(log, &before, sizeof before));
+    CHECK(!raftlog_batch_entries(batch, 1, entries, ENTRIES) && !raftlog_write(log, batch, true));
+    CHECK(!raftlog_stats(log, &after, sizeof after) && after.index_bytes >= before.index_bytes + 40 * ENTRIES);
+    CHECK(after.block_hits == 0 && after.block_misses == 0);
+    for (uint64_t i = 1; i <= 10; i++) CHECK(!raftlog_get_entry(log, 1, i, &bytes) && bytes.len == 10);
+    CHECK(!raftlog_stats(log, &after, sizeof after) && after.block_hits == 9 && after.block_misses == 1);
+    CHECK(!raftlog_close(log));
+    raftlog_bytes_free(&bytes);
+    raftlog_batch_free(batch);
+}
+
 static void *put_many(void *of) {
     raftlog *log = of;
     raftlog_batch *batch = raftlog_batch_new();
@@ -474,6 +496,7 @@ int main(int argc, char **argv) {
     cuts(argv[1]);
     stale_cuts(argv[1]);
     counts(argv[1]);
+    inner_counts(argv[1]);
     puts("ok");
     return 0;
 }

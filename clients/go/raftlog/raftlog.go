@@ -294,6 +294,9 @@ type Stats struct {
 	PurgeTime     time.Duration // that these took, without their wait for a turn
 	LongestPurge  time.Duration
 	Files         uint64 // that the folder has now, reserved ones too; 0 in memory
+	IndexBytes    uint64 // memory of the index now, without the bytes of keys and values
+	BlockHits     uint64 // reads of an entry whose block was kept; the last 16 are
+	BlockMisses   uint64 // reads of an entry that had to read its block
 }
 
 // SyncClasses is how many classes of times Stats.SyncTimes has.
@@ -321,6 +324,7 @@ func (e *Engine) Stats() (Stats, error) {
 		RecycledFiles: uint64(counts.recycled_files), DeletedFiles: uint64(counts.deleted_files),
 		Purges: uint64(counts.purges), PurgeTime: time.Duration(counts.purge_ns),
 		LongestPurge: time.Duration(counts.longest_purge_ns), Files: uint64(counts.files),
+		IndexBytes: uint64(counts.index_bytes), BlockHits: uint64(counts.block_hits), BlockMisses: uint64(counts.block_misses),
 	}
 	for i, count := range counts.sync_times {
 		stats.SyncTimes[i] = uint64(count)

@@ -218,7 +218,7 @@ func TestRounds(t *testing.T) {
 		stats, err := log.Stats()
 		must(t, err)
 		if stats.SyncedChanges != puts || stats.Batches != puts || stats.Syncs == 0 || stats.Bytes == 0 ||
-			stats.SyncTime == 0 || stats.Writes == 0 || stats.Files == 0 || stats.LongestSync > stats.SyncTime {
+			stats.SyncTime == 0 || stats.Writes == 0 || stats.Files == 0 || stats.IndexBytes == 0 || stats.LongestSync > stats.SyncTime {
 			t.Fatal(stats)
 		}
 		classes := uint64(0)

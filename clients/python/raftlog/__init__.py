@@ -52,13 +52,15 @@ class Stats(ctypes.Structure):
     sync_times has the syncs by classes of their times: class i has those under 2**i microseconds, and not under the bound
     of the one before; the last one has no bound. next_files are those that a queue went on to, and recycled_files those of
     them that were dropped or reserved files before. purges counts calls, a short one too, and files those that the folder
-    has now, reserved ones too (0 in memory)."""
+    has now, reserved ones too (0 in memory). index_bytes is the memory of the index now, without the bytes of keys and values;
+    block_hits are reads of an entry whose block was kept, and block_misses those that had to read it."""
     _fields_ = [(name, c_uint64) for name in
                 ("rounds", "changes", "synced_changes", "largest_round", "syncs", "bytes", "sync_ns", "batches", "writes",
                  "longest_sync_ns")]
     _fields_ += [("sync_times", c_uint64 * 24)]
     _fields_ += [(name, c_uint64) for name in
-                 ("next_files", "recycled_files", "deleted_files", "purges", "purge_ns", "longest_purge_ns", "files")]
+                 ("next_files", "recycled_files", "deleted_files", "purges", "purge_ns", "longest_purge_ns", "files",
+                  "index_bytes", "block_hits", "block_misses")]
 
     def as_dict(self):
         """The numbers by their names."""

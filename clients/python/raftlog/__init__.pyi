@@ -40,6 +40,9 @@ class Stats:
     purge_ns: int
     longest_purge_ns: int
     files: int
+    index_bytes: int
+    block_hits: int
+    block_misses: int
     def as_dict(self) -> Dict[str, Any]: ...
 
 class Cut(NamedTuple):

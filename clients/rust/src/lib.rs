@@ -283,6 +283,12 @@ pub struct Stats {
     pub longest_purge: Duration,
     /// Files that the folder has now, reserved ones too; 0 in memory.
     pub files: u64,
+    /// Memory of the index now: places of entries, rows of keys and groups, without the bytes of keys and values.
+    pub index_bytes: u64,
+    /// Reads of an entry whose block was kept; the last 16 are.
+    pub block_hits: u64,
+    /// Reads of an entry that had to read its block.
+    pub block_misses: u64,
 }
 
 /// How many classes of times `Stats::sync_times` has.
@@ -472,6 +478,9 @@ impl Engine {
             purge_time: Duration::from_nanos(counts.purge_ns),
             longest_purge: Duration::from_nanos(counts.longest_purge_ns),
             files: counts.files,
+            index_bytes: counts.index_bytes,
+            block_hits: counts.block_hits,
+            block_misses: counts.block_misses,
         })
     }
 

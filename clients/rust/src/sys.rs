@@ -41,6 +41,9 @@ pub struct raftlog_counts {
     pub purge_ns: u64,
     pub longest_purge_ns: u64,
     pub files: u64,
+    pub index_bytes: u64,
+    pub block_hits: u64,
+    pub block_misses: u64,
 }
 
 pub const RAFTLOG_TIMES: usize = 24;

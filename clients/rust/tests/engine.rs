@@ -248,7 +248,7 @@ fn by_rounds() {
         let puts = turn * 10 * WRITERS;
         assert_eq!((stats.synced_changes, stats.batches), (puts, puts));
         assert!(stats.syncs > 0 && stats.bytes > 0 && !stats.sync_time.is_zero(), "{stats:?}");
-        assert!(stats.writes > 0 && stats.files > 0 && stats.longest_sync <= stats.sync_time, "{stats:?}");
+        assert!(stats.writes > 0 && stats.files > 0 && stats.index_bytes > 0 && stats.longest_sync <= stats.sync_time, "{stats:?}");
         assert_eq!(stats.sync_times.iter().sum::<u64>(), stats.syncs);
         if stats.largest_round > 1 && stats.rounds < stats.changes {
             break;

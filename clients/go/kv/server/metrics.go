@@ -97,6 +97,9 @@ func (p *page) addLog(stats raftlog.Stats) {
 	p.add("raftlog_purge_seconds_total", "counter", "Time of these purges.", stats.PurgeTime.Seconds())
 	p.add("raftlog_longest_purge_seconds", "gauge", "Time of the longest purge.", stats.LongestPurge.Seconds())
 	p.add("raftlog_files", "gauge", "Files that the log's folder has.", float64(stats.Files))
+	p.add("raftlog_index_bytes", "gauge", "Memory of the index, without keys and values.", float64(stats.IndexBytes))
+	p.counter("raftlog_block_hits_total", "Reads of an entry whose block was kept.", stats.BlockHits)
+	p.counter("raftlog_block_misses_total", "Reads of an entry that had to read its block.", stats.BlockMisses)
 	p.add("raftlog_largest_round_changes", "gauge", "The most changes of a round.", float64(stats.LargestRound))
 }
 

@@ -72,6 +72,7 @@ func TestMetrics(t *testing.T) {
 		`kv_group_leader{group="2"}`: 1, `kv_group_term{group="2"}`: 1, "kv_snapshots_total": 1,
 		"raftlog_batches_total": 20, "raftlog_sync_seconds_count": 20, "raftlog_written_bytes_total": 1000,
 		"raftlog_files": 1, "raftlog_next_files_total": 0, "raftlog_purges_total": 0,
+		"raftlog_index_bytes": 40 * 20, "raftlog_block_hits_total": 0, "raftlog_block_misses_total": 0,
 	} {
 		if value, found := samples[name]; !found || value < least {
 			t.Errorf("%s is %v, %v", name, value, found)

@@ -29,6 +29,9 @@ type logStatus struct {
 	WrittenBytes       uint64    `json:"written_bytes"`
 	Files              uint64    `json:"files"`
 	Purges             uint64    `json:"purges"`
+	IndexBytes         uint64    `json:"index_bytes"`
+	BlockHits          uint64    `json:"block_hits"`
+	BlockMisses        uint64    `json:"block_misses"`
 	Syncs              uint64    `json:"syncs"`
 	SyncSeconds        float64   `json:"sync_seconds"`
 	LongestSyncSeconds float64   `json:"longest_sync_seconds"`
@@ -42,6 +45,9 @@ func logStatusOf(stats raftlog.Stats) *logStatus {
 		WrittenBytes:       stats.Bytes,
 		Files:              stats.Files,
 		Purges:             stats.Purges,
+		IndexBytes:         stats.IndexBytes,
+		BlockHits:          stats.BlockHits,
+		BlockMisses:        stats.BlockMisses,
 		Syncs:              stats.Syncs,
 		SyncSeconds:        stats.SyncTime.Seconds(),
 		LongestSyncSeconds: stats.LongestSync.Seconds(),

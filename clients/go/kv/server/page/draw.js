@@ -126,6 +126,7 @@ function rowsOf(nodes, node) {
     "sync time, mean": time(log.syncs ? log.sync_seconds / log.syncs : 0),
     "sync time, longest": time(log.longest_sync_seconds),
     log: `${size(log.written_bytes)} written, ${several(log.files, "file")}`,
+    index: `${size(log.index_bytes)} of memory`,
   };
 }
 

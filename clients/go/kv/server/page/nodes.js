@@ -13,6 +13,7 @@ const NO_LOG = {
   sync_bounds: [],
   written_bytes: 0,
   files: 0,
+  index_bytes: 0,
 };
 
 const sum = (list, of) => list.reduce((all, it) => all + of(it), 0);
