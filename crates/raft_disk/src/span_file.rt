@@ -19,8 +19,8 @@ use std::os::unix::fs::{FileExt, MetadataExt};
 pub(crate) struct SpanFile {
     /// The file that has a note; none if there is none.
     file: Option<File>,
-    /// Whether something else has the note's name: then no note is written.
-    is_taken: bool,
+    /// Whether no note is written: something else has its name, or no span is known.
+    is_silent: bool,
     spans: Spans,
     count: u64,
     /// The slot of the note that a crash leaves.
@@ -35,7 +35,7 @@ impl SpanFile {
     fn new(alloc: Global) -> SpanFile {
         SpanFile {
             file: None,
-            is_taken: false,
+            is_silent: false,
             spans: Spans::empty(alloc),
             count: 0,
             synced: 1,
@@ -53,8 +53,8 @@ impl SpanFile {
             Err(e) if e.kind() == ErrorKind::NotFound => return Ok(found),
             Err(e) => return Err(e),
         };
-        found.is_taken = !metadata.is_file() || metadata.nlink() != 1;
-        if !found.is_taken {
+        found.is_silent = !metadata.is_file() || metadata.nlink() != 1;
+        if !found.is_silent {
             found.read(rt, place.as_str())?;
         }
         Ok(found)
@@ -65,8 +65,8 @@ impl SpanFile {
         let file = options.read(true).write(true).open(rt, place)?;
         file.sync_all()?;
         let bytes = read_note(rt.alloc(), &file)?;
-        self.is_taken = !is_note(&bytes);
-        if self.is_taken {
+        self.is_silent = !is_note(&bytes);
+        if self.is_silent {
             return Ok(());
         }
         if let Some((slot, note)) = latest(rt.alloc(), &bytes)? {
@@ -87,7 +87,7 @@ impl SpanFile {
     }
 
     /// Compares the note with the files that an opening found. Writes a new one if there is none, if
-    /// a crash left it old, or if another program made it stale.
+    /// a crash left it old, or if another program made it stale; but none if a file may be missing.
     pub(crate) fn begin(
         &mut self,
         rt: &HostRuntime,
@@ -104,9 +104,16 @@ impl SpanFile {
             });
         }
         let (noted_append, noted_rewrite) = (self.spans.append, self.spans.rewrite);
-        self.spans.append = noted_append.at_opening(&append);
-        self.spans.rewrite = noted_rewrite.at_opening(&rewrite);
-        if self.spans.append != noted_append || self.spans.rewrite != noted_rewrite {
+        let (Some(append), Some(rewrite)) = (
+            noted_append.at_opening(&append),
+            noted_rewrite.at_opening(&rewrite),
+        ) else {
+            self.is_silent = true;
+            return Ok(());
+        };
+        self.spans.append = append;
+        self.spans.rewrite = rewrite;
+        if append != noted_append || rewrite != noted_rewrite {
             let _ = self.write(rt, root, true);
         }
         Ok(())
@@ -187,7 +194,7 @@ impl SpanFile {
     }
 
     fn write_or_remove(&mut self, rt: &HostRuntime, root: &Root) -> io::Result<()> {
-        if self.file.is_none() || self.write(rt, root, true).is_ok() {
+        if self.file.is_none() || (!self.is_silent && self.write(rt, root, true).is_ok()) {
             return Ok(());
         }
         self.file = None;
@@ -195,7 +202,7 @@ impl SpanFile {
     }
 
     fn write(&mut self, rt: &HostRuntime, root: &Root, is_synced: bool) -> io::Result<()> {
-        if self.is_taken {
+        if self.is_silent {
             return Ok(());
         }
         let slot = 1 ^ (self.synced & 1);

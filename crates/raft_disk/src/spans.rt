@@ -178,17 +178,20 @@ impl Span {
         has_later && !has_own
     }
 
-    /// The span at an opening, which reads the files of these numbers: the note's, if it is true.
-    pub(crate) fn at_opening(&self, numbers: &[u64]) -> Span {
+    /// The span at an opening that found files of these numbers: the note's, if it is true. Without
+    /// a note it is that of all files. If one of these is missing then, no span is known: a purge may
+    /// have left the files before it, or someone else may have deleted it.
+    pub(crate) fn at_opening(&self, numbers: &[u64]) -> Option<Span> {
         let end = self.end(numbers);
         if self.is_stale(numbers, end) {
-            return Span::of(numbers);
+            let span = Span::of(numbers);
+            return (numbers.first() == Some(&span.first)).then_some(span);
         }
-        Span {
+        Some(Span {
             first: self.front(numbers),
             last: end,
             is_dropping: false,
-        }
+        })
     }
 
     /// Notes that a file was made; returns whether that changed the span. A number that does not
