@@ -1,4 +1,4 @@
-//! Entries of text with a message that names the last one, as raft-engine's tests write and read them.
+//! Entries of text with a message that has the last index, as raft-engine's tests use them.
 
 use crate::answer::{Answer, Unanswered};
 use crate::batch::text_entries;
@@ -161,8 +161,8 @@ fn told(
     Ok(Answer::Text(text))
 }
 
-/// All entries of a group, which are fetched, got one by one and lent: the first and the last index,
-/// the word of each, the queues in which they are, and the index in the group's message.
+/// All entries of a group, fetched, got one by one and lent: the first and the last index, the word
+/// of each, the queues in which they are, and the index in the group's message.
 pub(crate) fn whole<F: FileSystem>(
     alloc: Global,
     engine: &mut Engine<F>,

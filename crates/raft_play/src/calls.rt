@@ -20,7 +20,7 @@ pub(crate) enum Call {
     /// An entry with these bytes for each of some groups and indexes, in a batch of its own.
     WriteEach((u64, u64), (u64, u64), Vec<u8>),
     Append(Appends),
-    /// Of the Append queue's files up to one, what the groups from one on have there, within a budget.
+    /// Of the Append queue's files up to one, what the groups from one on have, within a budget.
     RewriteGroups(FileSeq, u64, u64),
     RenewGroups(u64, u64),
     /// Any other.

@@ -90,7 +90,7 @@ fn scanned<F: FileSystem>(
     handed.answer()
 }
 
-// The keys of a group with the words of their messages, in order or backwards, until there are so many.
+// The keys of a group with the words of their messages, at most so many, in order or backwards.
 fn messages<F: FileSystem>(
     alloc: Global,
     engine: &Engine<F>,
