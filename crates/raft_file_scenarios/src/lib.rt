@@ -11,6 +11,8 @@ mod calls;
 #[cfg(test)]
 mod checks;
 #[cfg(test)]
+mod disk;
+#[cfg(test)]
 mod dumps;
 #[cfg(test)]
 mod failing;
