@@ -329,11 +329,7 @@ fn first_wrong<F: FileSystem>(
     Ok(None)
 }
 
-fn wrong_in<F: Disk>(
-    rt: HostRuntime,
-    folder: &str,
-    rows: &[Row],
-) -> Result<Option<usize>, Fail> {
+fn wrong_in<F: Disk>(rt: HostRuntime, folder: &str, rows: &[Row]) -> Result<Option<usize>, Fail> {
     let mut files = F::open_folder(rt, folder, Reading::All)?;
     first_wrong(&rt, &mut files, folder, rows)
 }

@@ -21,6 +21,8 @@ mod foreign;
 #[cfg(test)]
 mod in_folder;
 #[cfg(test)]
+mod in_memory;
+#[cfg(test)]
 mod log_files;
 #[cfg(test)]
 mod losses;
