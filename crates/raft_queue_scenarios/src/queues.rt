@@ -13,6 +13,7 @@ use std::alloc::Global;
 
 /// Bytes that are written: so many of one byte, for files that are full with so many bytes, and
 /// whether they are synced.
+#[derive(Clone, Copy)]
 struct Written {
     byte: u8,
     len: usize,
