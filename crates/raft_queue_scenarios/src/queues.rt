@@ -11,10 +11,35 @@ use raft_pipes::{AppendFault, LogFolders, NewPipe, RotationFault, SinglePipe};
 use raft_records::{Fault, FileBlockHandle, FileId, LogItem, LogQueue};
 use std::alloc::Global;
 
+/// Bytes that are written: so many of one byte, for files that are full with so many bytes, and
+/// whether they are synced.
+#[derive(Clone, Copy)]
+struct Written {
+    byte: u8,
+    len: usize,
+    target: usize,
+    sync: bool,
+}
+
 /// A file with so many bytes is full.
 const TARGET: usize = 1024;
 
+/// A file with its header is full.
+const ALWAYS_FULL: usize = 1;
+
+/// 16 bytes where a file's records begin: their byte, and the number of the file.
+enum Each {
+    /// They are appended and synced.
+    Put(u8, u64),
+    /// They alone are read at the handle of their append.
+    Read(u8, u64),
+    /// The handle of their append is refused.
+    Gone(u64),
+}
+
 enum Step {
+    /// Ten of these, each with the next byte and in the next file.
+    Ten(Each),
     /// Appends so many bytes, to the next file where the last one is full: the file and the place where they stand.
     Append(usize, u64, u64),
     Rotate,
@@ -28,10 +53,12 @@ enum Step {
     Span(u64, u64, usize),
 }
 
-/// A file that stands before the queue is opened, the steps, and the files after them with their lengths.
+/// A file that stands before the queue is opened, how many files are kept to be used again, the
+/// steps, and the files after them with their lengths.
 struct Case {
     name: &'static str,
     found: Option<&'static str>,
+    capacity: usize,
     steps: &'static [Step],
     files: &'static [(&'static str, usize)],
 }
@@ -40,6 +67,7 @@ static ROWS: [Case; 3] = [
     Case {
         name: "three files",
         found: None,
+        capacity: 0,
         steps: &[
             Step::Span(1, 1, 1024),
             Step::Append(1024, 1, 69),
@@ -62,6 +90,7 @@ static ROWS: [Case; 3] = [
     Case {
         name: "the first files are deleted",
         found: None,
+        capacity: 0,
         steps: &[
             Step::Append(1024, 1, 69),
             Step::Append(1024, 2, 69),
@@ -83,6 +112,7 @@ static ROWS: [Case; 3] = [
     Case {
         name: "no number after the last one",
         found: Some("data/9999999999999999.raftlog"),
+        capacity: 0,
         steps: &[
             Step::RotateRefused(6),
             Step::Append(1024, 9_999_999_999_999_999, 69),
@@ -94,8 +124,44 @@ static ROWS: [Case; 3] = [
     },
 ];
 
-fn cases() -> &'static [Case] {
-    &ROWS
+/// Each file holds one record, since it is full with its header. Of the eleven files that are
+/// dropped ten are used again, in order.
+static USED_AGAIN: [Case; 1] = [Case {
+    name: "files are used again",
+    found: None,
+    capacity: 1000,
+    steps: &[
+        Step::Span(1, 1, 1024),
+        Step::Ten(Each::Put(0, 2)),
+        Step::Rotate,
+        Step::Span(1, 12, 12_288),
+        Step::Purge(0, Err(14)),
+        Step::Purge(13, Err(14)),
+        Step::Purge(12, Ok(11)),
+        Step::Ten(Each::Gone(2)),
+        Step::Ten(Each::Put(1, 13)),
+        Step::Ten(Each::Read(1, 13)),
+        Step::Span(12, 22, 11_264),
+    ],
+    files: &[
+        ("data/0000000000000001.raftlog.reserved", 85),
+        ("data/0000000000000012.raftlog", 69),
+        ("data/0000000000000013.raftlog", 85),
+        ("data/0000000000000014.raftlog", 85),
+        ("data/0000000000000015.raftlog", 85),
+        ("data/0000000000000016.raftlog", 85),
+        ("data/0000000000000017.raftlog", 85),
+        ("data/0000000000000018.raftlog", 85),
+        ("data/0000000000000019.raftlog", 85),
+        ("data/0000000000000020.raftlog", 85),
+        ("data/0000000000000021.raftlog", 85),
+        ("data/0000000000000022.raftlog", 85),
+    ],
+}];
+
+// A function is checked with all of each table that it names, and that grows with the square of the table.
+fn cases() -> [&'static [Case]; 2] {
+    [&ROWS, &USED_AGAIN]
 }
 
 /// Takes batches and keeps none.
@@ -121,7 +187,7 @@ fn fault_of(fault: RotationFault) -> Fault {
 }
 
 // The pipe of the Append queue, over the files that stand.
-fn opened<F: FileSystem>(alloc: Global, fs: &mut F) -> Result<SinglePipe<F>, Fault>
+fn opened<F: FileSystem>(alloc: Global, fs: &mut F, capacity: usize) -> Result<SinglePipe<F>, Fault>
     ensures stands { IfOk result (λ pipe. IsPipeOf pipe (F.directory fs.new)) }
 {
     let config = settings(alloc)?;
@@ -136,7 +202,7 @@ fn opened<F: FileSystem>(alloc: Global, fs: &mut F) -> Result<SinglePipe<F>, Fau
         folders,
         version: config.format_version,
         spare: Vec::new(alloc),
-        capacity: 0,
+        capacity,
         target_size: 0,
     };
     settle_or_begin(alloc, wanted, files, replayed, fs)
@@ -146,17 +212,17 @@ fn append<F: FileSystem>(
     alloc: Global,
     fs: &mut F,
     pipe: &mut SinglePipe<F>,
-    len: usize,
+    written: &Written,
 ) -> Result<FileBlockHandle, Fault>
     requires { IsPipeOf pipe.old (F.directory fs.old) }
     ensures stands { OnOk result (IsPipeOf pipe.new (F.directory fs.new)) }
 {
-    let bytes = vec![in alloc; 7; len]?;
-    match pipe.rotate_if_full(fs, TARGET) {
+    let bytes = vec![in alloc; written.byte; written.len]?;
+    match pipe.rotate_if_full(fs, written.target) {
         Ok(()) => {}
         Err(fault) => return Err(fault_of(fault)),
     }
-    match pipe.append(fs, &bytes, TARGET, false) {
+    match pipe.append(fs, &bytes, written.target, written.sync) {
         Ok(handle) => Ok(handle),
         Err(AppendFault::RolledBack(fault)) | Err(AppendFault::InDoubt(fault)) => Err(fault),
     }
@@ -180,6 +246,85 @@ fn read<F: FileSystem>(
     }
 }
 
+// Whether 16 bytes alone are read, all of them this byte.
+fn reads_all<F: FileSystem>(
+    alloc: Global,
+    fs: &mut F,
+    pipe: &SinglePipe<F>,
+    seq: u64,
+    byte: u8,
+) -> Result<bool, Fault>
+    ensures unchanged { F.directory fs.new ≡ F.directory fs.old }
+{
+    let mut bytes = Vec::new(alloc);
+    pipe.read_bytes(fs, first_block(seq), &mut bytes)?;
+    Ok(bytes.len() == 16 && are_all(&bytes, byte))
+}
+
+fn is_gone<F: FileSystem>(alloc: Global, fs: &mut F, pipe: &SinglePipe<F>, seq: u64) -> bool
+    ensures unchanged { F.directory fs.new ≡ F.directory fs.old }
+{
+    match pipe.read_bytes(fs, first_block(seq), &mut Vec::new(alloc)) {
+        Ok(()) => false,
+        Err(fault) => fault.code() == 14,
+    }
+}
+
+fn first_block(seq: u64) -> FileBlockHandle {
+    FileBlockHandle {
+        id: id_of(seq),
+        offset: 69,
+        len: 16,
+    }
+}
+
+// Whether the nth comes to what it says.
+fn nth_holds<F: FileSystem>(
+    alloc: Global,
+    fs: &mut F,
+    pipe: &mut SinglePipe<F>,
+    each: &Each,
+    nth: u8,
+) -> Result<bool, Fault>
+    requires { IsPipeOf pipe.old (F.directory fs.old) }
+    ensures stands { OnOk result (IsPipeOf pipe.new (F.directory fs.new)) }
+{
+    match each {
+        Each::Put(byte, seq) => {
+            let written = Written {
+                byte: byte.saturating_add(nth),
+                len: 16,
+                target: ALWAYS_FULL,
+                sync: true,
+            };
+            let handle = append(alloc, fs, pipe, &written)?;
+            Ok(handle == first_block(seq.saturating_add(u64::from(nth))))
+        }
+        Each::Read(byte, seq) => {
+            let (byte, seq) = (byte.saturating_add(nth), seq.saturating_add(u64::from(nth)));
+            reads_all(alloc, fs, pipe, seq, byte)
+        }
+        Each::Gone(seq) => Ok(is_gone(alloc, fs, pipe, seq.saturating_add(u64::from(nth)))),
+    }
+}
+
+// Whether all ten come to what they say.
+fn ten_hold<F: FileSystem>(
+    alloc: Global,
+    fs: &mut F,
+    pipe: &mut SinglePipe<F>,
+    each: &Each,
+) -> Result<bool, Fault>
+    requires { IsPipeOf pipe.old (F.directory fs.old) }
+    ensures stands { OnOk result (IsPipeOf pipe.new (F.directory fs.new)) }
+{
+    let mut are_right = true;
+    for nth in 0..10u8 {
+        are_right = nth_holds(alloc, fs, pipe, each, nth)? && are_right;
+    }
+    Ok(are_right)
+}
+
 // Whether the step comes to what it says.
 fn holds<F: FileSystem>(
     alloc: Global,
@@ -192,9 +337,16 @@ fn holds<F: FileSystem>(
 {
     match step {
         Step::Append(len, seq, offset) => {
-            let handle = append(alloc, fs, pipe, *len)?;
+            let written = Written {
+                byte: 7,
+                len: *len,
+                target: TARGET,
+                sync: false,
+            };
+            let handle = append(alloc, fs, pipe, &written)?;
             Ok(handle.id == id_of(*seq) && handle.offset == *offset && handle.len == *len)
         }
+        Step::Ten(each) => ten_hold(alloc, fs, pipe, each),
         Step::Rotate => match pipe.rotate(fs) {
             Ok(()) => Ok(true),
             Err(fault) => Err(fault_of(fault)),
@@ -246,7 +398,7 @@ fn is_as_said<F: FileSystem>(alloc: Global, fs: &mut F, case: &Case) -> Result<b
     if let Some(path) = case.found {
         store(alloc, fs, path, &[HEADER])?;
     }
-    let mut pipe = opened(alloc, fs)?;
+    let mut pipe = opened(alloc, fs, case.capacity)?;
     if first_wrong(alloc, fs, &mut pipe, case.steps)?.is_some() {
         return Ok(false);
     }
@@ -261,7 +413,9 @@ fn is_so_in_memory(alloc: Global, case: &Case) -> Result<bool, Fault> {
 
 #[test]
 fn one_queue(rt: HostRuntime) {
-    for case in cases() {
-        assert_row(&rt, is_so_in_memory(rt.alloc(), case), case.name);
+    for cases in &cases() {
+        for case in *cases {
+            assert_row(&rt, is_so_in_memory(rt.alloc(), case), case.name);
+        }
     }
 }

@@ -9,6 +9,7 @@ use Rattle.raft_pipes.specs.Folder.{log_files_of}
 use Rattle.raft_config.specs.Folders.{Folders, all_of}
 use Rattle.raft_pipes.specs.Numbered.{AreSingle}
 use Rattle.raft_opening.proofs.OpenedQueueLemmas.{openable_places}
+use Rattle.raft_queues.proofs.DualLemmas.{append_differs}
 use Rattle.raft_queue_scenarios.proofs.queues.opened.Goals as goal
 
 pub settle_or_begin-requires-clause-read : goal.settle_or_begin-requires-clause-read
@@ -29,3 +30,6 @@ settle_or_begin-requires-clause-read g c _ _ =
       places = openable_places Append mode folders read before;
       replays = λ some. subst (λ fs. AreReplaysOf Append read (map place_of fs) replayed) c.deref.ensures.value replays;
     }
+
+pub settle_or_begin-requires-clause-alone : goal.settle_or_begin-requires-clause-alone
+settle_or_begin-requires-clause-alone g c _ _ = λ is. absurd (append_differs is)
