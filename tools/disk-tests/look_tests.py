@@ -412,6 +412,7 @@ def main():
         tests.gone_queue()
         tests.plans()
         tests.noted()
+        tests.gap_without_note()
         tests.killed_closes()
         tests.other_file_system()
         tests.strays()

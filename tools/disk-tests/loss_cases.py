@@ -102,7 +102,8 @@ class Losses:
         foreign = os.path.join(self.work, "foreign")
         self.run(foreign, "load", 60, 40)
         size = os.path.getsize(os.path.join(foreign, f"{1:016}.raftlog"))
-        # A header alone.
+        # A header alone, and no note of the numbers.
+        os.unlink(os.path.join(foreign, "SPANS"))
         shutil.copy(os.path.join(foreign, f"{1:016}.rewrite"), os.path.join(foreign, f"{9:016}.raftlog"))
         self.passes(foreign, f"files 1 at 0 bytes {size}", "numbers 1 to 1 of queue append: number 2 is missing")
         ran = self.run(foreign, "repair", "--cut")
@@ -122,7 +123,7 @@ class Losses:
         before = state_of(folder)
         for words in ("put 1 a b", "purge", "repair"):
             ran = self.run(folder, *words.split())
-            self.expect(f"{folder}: {words} is refused", ran.returncode == 7 and b"cannot be known" in ran.stderr)
+            self.expect(f"{folder}: {words} is refused", ran.returncode == 7 and b"is missing after them" in ran.stderr)
         self.expect(f"{folder}: nothing is done", state_of(folder) == before)
 
     def left_out(self):

@@ -177,6 +177,7 @@ class Plans:
         os.mkdir(second)
         for name in logs_in(folder):
             os.rename(os.path.join(folder, name), os.path.join(second, name))
+        self.without_note(folder)
         ran = self.run(folder, "put", 1, "a", "b", "--cut")
         self.expect(f"a put that goes on: {ran.stderr}", ran.returncode == 0 and b"--spill second" in ran.stderr)
         return folder
@@ -228,6 +229,16 @@ class Plans:
         ran = self.run(folder, "repair", "--cut")
         self.expect(f"a stray with a header: {ran.stderr}", ran.returncode == 0 and os.path.exists(stray + ".stray"))
         self.expect("then all is there", self.run(folder, "check").returncode == 0)
+
+    def gap_without_note(self):
+        """A refused change notes no gap as harmless."""
+        folder = self.with_gap(os.path.join(self.work, "gap-without-note"))
+        self.without_note(folder)
+        for _ in range(2):
+            before = state_of(folder)
+            ran = self.run(folder, "put", 1, "a", "b")
+            self.expect(f"a gap without a note: {ran.stderr}", ran.returncode == 7 and b"cannot be known" in ran.stderr)
+            self.expect("it changes nothing", state_of(folder) == before)
 
     def killed_closes(self):
         """B2 of the review: a kill at any call of a rewriting refuses no later change."""
@@ -291,6 +302,7 @@ class Plans:
             self.expect(f"{folder}: its keys are there", ran.returncode == 0 and not ran.stderr)
         folder = self.with_stray(os.path.join(self.work, "stray-with-record"))
         shutil.copy(os.path.join(folder, name_of(1)), os.path.join(folder, name_of(9)))
+        self.without_note(folder)
         kinds = [line.split()[1] for line in lines_of(self.run(folder, "check").stdout)]
         self.expect(f"a file with a header is no stray: {kinds}", "stray" not in kinds and "passed" in kinds)
 
@@ -349,7 +361,7 @@ class Plans:
                 make(folder)
                 checked = self.run(folder, "check", "--mode", mode, *words)
                 ran = self.run(folder, "put", 1, "a", "b", "--mode", mode, *words)
-                wanted = {0: (0,), 1: (1,), 4: (0, 7), 5: (1,), 6: (7,)}[checked.returncode]
+                wanted = {0: (0,), 1: (1,), 4: (0, 7), 5: (1,), 6: (0, 7)}[checked.returncode]
                 self.expect(f"{case}, {mode}: check {checked.returncode}, put {ran.returncode}: {ran.stderr}", ran.returncode in wanted)
 
     def refused_openings(self):

@@ -15,9 +15,10 @@ use anyhow::{Result, anyhow};
 use raft_command_line::{Request, Verb};
 use raft_console::{Output, Progress, Status, bytes_of, or_failure};
 use raft_contents::{Material, truncate};
+use raft_disk::DiskFileSystem;
 use raft_env::FileSystem;
 use raft_log_engine::Engine;
-use raft_looks::Folder;
+use raft_looks::{Folder, told};
 use std::thread::Threads;
 
 /// Does what changes the log in the folder of the request. The folder is made where it is missing,
@@ -46,11 +47,27 @@ pub fn change_by<R: Threads + Sync>(
         Ok(files) => change_files(&rt, threads, files, request, material),
         Err(error) => Err(error),
     };
-    if changed.is_err() {
+    match &changed {
+        Ok(status) => forget_spans(rt, request, *status)?,
         // What can't be told hides no error.
-        let _ = tell_refused(rt, request);
+        Err(_) => {
+            let _ = tell_refused(rt, request);
+        }
     }
     changed
+}
+
+// What `repair --cut` has accepted as lost is no longer missed: the next opening notes the files
+// that exist.
+fn forget_spans(rt: HostRuntime, request: &Request<'_>, status: Status) -> Result<()> {
+    let is_repair = matches!(&request.verb, Verb::Repair);
+    if !is_repair || !request.options.changing.cut || status != Status::Done {
+        return Ok(());
+    }
+    match DiskFileSystem::forget_spans(rt, request.folder) {
+        Ok(()) => Ok(()),
+        Err(fault) => Err(told(&rt, &fault)),
+    }
 }
 
 // What the system refuses of the log's own files, where a change failed.

@@ -13,7 +13,7 @@ pub fn told(rt: &HostRuntime, fault: &OpenFault) -> Error {
     match format!(in rt.alloc(); "{fault}") {
         Ok(text) if text.len() > ROOM => {
             // What can't be told hides no error.
-            let _ = eprintln!(rt; "raftctl: {text}");
+            let _ = tell(rt, false, "error", text.as_str());
             anyhow!("the folder cannot be read")
         }
         _ => anyhow!("{fault}"),

@@ -257,7 +257,7 @@ impl Planner<'_> {
         let name = queue_name(queue);
         for (first, last) in &known.missing {
             let mend = if spill.is_empty() || self.spill.is_some() {
-                String::new(self.alloc)
+                self.raftctl("repair --cut")?
             } else {
                 self.spill_option(spill)?
             };
