@@ -56,7 +56,7 @@ function drawCircle(nodes, node, index) {
   const says = node.isUp ? (led ? `leads ${several(led, "group")}` : "follows") : "down";
   return (
     tag("circle", { cx: x, cy: y, r: 24, "data-state": node.state }) +
-    tag("text", { class: "number", x, y: y + 7 }, node.number) +
+    tag("text", { class: "number", x, y: y + 7 }, safe(node.number)) +
     tag("text", { x, y: y + 38 }, says) +
     tag("text", { class: "pale", x, y: y + 51 }, safe(node.address))
   );
@@ -133,7 +133,7 @@ function rowsOf(nodes, node) {
 function drawNode(nodes, node) {
   const last = node.at ? ` since ${new Date(node.at).toLocaleTimeString()}` : "";
   const says = node.isUp ? "answers" : `is down: no answer${last}`;
-  const heads = tag("h2", {}, `Node ${node.number}`) + tag("p", {}, `${safe(node.address)} ${says}`);
+  const heads = tag("h2", {}, `Node ${safe(node.number)}`) + tag("p", {}, `${safe(node.address)} ${says}`);
   const frame = { "data-node": node.number, "data-state": node.state };
   if (!node.status) return tag("article", frame, heads);
   const rows = Object.entries(rowsOf(nodes, node));
@@ -152,12 +152,12 @@ function drawCell(nodes, node, number) {
 function drawGroup(nodes, number) {
   const leader = leaderOf(nodes, number);
   const cells = nodes.map((node) => drawCell(nodes, node, number));
-  const says = leader ? `node ${leader}` : "none";
-  return tag("tr", {}, tag("td", {}, `group ${number}`), tag("td", {}, says), ...cells);
+  const says = leader ? `node ${safe(leader)}` : "none";
+  return tag("tr", {}, tag("td", {}, `group ${safe(number)}`), tag("td", {}, says), ...cells);
 }
 
 function drawGroups(nodes) {
-  const heads = ["group", "leader", ...nodes.map((node) => `node ${node.number}`)];
+  const heads = ["group", "leader", ...nodes.map((node) => `node ${safe(node.number)}`)];
   const head = tag("tr", {}, ...heads.map((it) => tag("th", { scope: "col" }, it)));
   const rows = groupNumbers(nodes).map((number) => drawGroup(nodes, number));
   return tag("table", {}, tag("thead", {}, head), tag("tbody", {}, ...rows));
