@@ -17,5 +17,5 @@ ActsOnce l = ∥ ((acts : List Act) × (are_written acts ≡ l.durable ++ l.unsy
 
 -- the law of numbers
 abbrev pub NumbersActOnce : {F H R W : Type 0} → Ghosts F H R W → Type 0
-NumbersActOnce g = (folders : Folders) (node : Node g folders) (l : Ledger)
+NumbersActOnce g = (folders : Folders) (node : Node g) (l : Ledger)
     → Happens g folders true node l → ActsOnce l

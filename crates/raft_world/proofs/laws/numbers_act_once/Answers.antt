@@ -14,5 +14,6 @@ returns g c = λ folders node l happened.
       none = c.crash_leaves_contents.ensures.none;
       clear = c.crash_leaves_contents.ensures.clear;
       single = c.crash_leaves_contents.ensures.single;
+      beside = c.queues_stand_side_by_side.ensures.recovers;
     } in
     acts_once g.F.FileSystem folders laws (λ e. engine_keeps e) c.a_number_acts_once.ensures.once node l happened

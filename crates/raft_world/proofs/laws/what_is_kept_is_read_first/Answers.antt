@@ -15,5 +15,6 @@ returns g c = λ folders node l happened after fallen.
       none = c.crash_leaves_contents.ensures.none;
       clear = c.crash_leaves_contents.ensures.clear;
       single = c.crash_leaves_contents.ensures.single;
+      beside = c.queues_stand_side_by_side.ensures.recovers;
     } in
     kept_read_first g.F.FileSystem folders laws (λ e. engine_keeps e) c.crash_leaves_a_prefix.ensures.contents false node l happened after fallen
