@@ -1,5 +1,5 @@
 -- Files as they are: what is read of them, and what a restart or a kill leaves of them.
-use Rattle.std.proofs.Common.{◌≡◌, ◌∙◌, ℕ, true, false, List, [], ◌∷◌, Some, None, refl, sym, ap, subst}
+use Rattle.std.proofs.Common.{◌≡◌, ◌∙◌, Bool, ℕ, true, List, [], ◌∷◌, Some, None, refl, sym, ap, subst}
 use Rattle.std.specs.List.{AllByRecursion}
 use Rattle.std.proofs.Math.Path.{fun_ext}
 use Rattle.std.proofs.lemmas.Option.{same_Some}
@@ -53,7 +53,7 @@ module _ (queue : LogQueue) (bytes : Path → List ℕ) where
 
   unmarked_end : (files : List (ℕ × Path)) → EachFile Opens files → (f : ℕ × Path) → last_of files ≡ Some f → EndsWithoutCompressed (in_queue queue f.0) (bytes f.1)
   unmarked_end [] each f last = let clash : None ≡ Some f = last in absurd cc
-  unmarked_end (h ∷ []) each f last = subst (λ (x : ℕ × Path). EndsWithoutCompressed (in_queue queue x.0) (bytes x.1)) (same_Some last) each.0.unmarked
+  unmarked_end (h ∷ []) each f last = subst (λ (x : ℕ × Path). EndsWithoutCompressed (in_queue queue x.0) (bytes x.1)) (same_Some h f last) each.0.unmarked
   unmarked_end (h ∷ k ∷ files) each f last = unmarked_end (k ∷ files) each.1 f last
 
 -- are such that a crash which leaves all bytes leaves them so

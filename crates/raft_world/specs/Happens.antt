@@ -119,7 +119,7 @@ module _ {F H R W : Type 0} (g : Ghosts F H R W) (folders : Folders) (numbered :
     -- a reopening returns `Ok`
     Reopened : (e later : Engine F H R W g) (l : Ledger) → Happens (Running e) l
         → Reopens e later → Happens (Running later) (all_durable l)
-    -- the engine is given up, or a close or a reopening fails
+    -- the engine is given up, a close or a reopening fails, or the process ends without a close
     GivenUp : (e : Engine F H R W g) (l : Ledger) (files : F) → Happens (Running e) l
         → GivesUp e files → AreDetectable folders (g.directory files)
         → Happens (Down (g.directory files)) l
@@ -150,8 +150,8 @@ module _ {F H R W : Type 0} (g : Ghosts F H R W) (folders : Folders) (numbered :
 
 module _ {F H R W : Type 0} (g : Ghosts F H R W) (folders : Folders) where
   -- an opening of files with this ledger returns an engine in these folders that hasn't failed, is
-  -- all synced and holds contents that may be found; or it fails, by storage, which counted the
-  -- failure, or out of memory, or since its settings don't tolerate what it found
+  -- all synced and holds contents that may be found; or it fails. With tolerant settings it fails by
+  -- storage, which counted the failure, or out of memory
   pub record FindsOnly (l : Ledger) (config : Config) (files : F)
       (answer : Result (Engine F H R W g) (Refused F)) : Type 0 where
     pub ok : IfOk answer (λ e. (folders_of e ≡ folders) × (has_failed e ≡ false) × IsAllSynced e

@@ -5,6 +5,7 @@ ghost use Rattle.raft_env.specs.Consistent.{AreConsistent};
 ghost use Rattle.raft_env.specs.Directory.{Directory, Leaves};
 ghost use Rattle.raft_files.specs.Records.{as_it_is};
 ghost use Rattle.raft_log_engine.specs.Purge.{HasLastId, HasOpenGroup};
+ghost use Rattle.raft_world.specs.Completed.{LastFilesAreCompleted};
 ghost use Rattle.raft_world.specs.Effects.{ArmingHasNoEffect, CloseEnds, CompactionHasEffect, GiveUpEnds, KillEnds, PurgeHasEffect, ReadHasNoEffect, ReopenEnds, SyncHasEffect, WriteGroupHasEffect, WriteHasEffect, WriteOnceHasEffect};
 ghost use Rattle.raft_world.specs.Happens.{OpeningsContinue, TheLogIsSafe};
 ghost use Rattle.raft_world.specs.Once.{NumbersActOnce};
@@ -62,6 +63,13 @@ pub fn what_is_kept_is_read_first<F: FileSystem>()
     queues_stand_side_by_side();
     crash_leaves_a_prefix();
 }
+
+/// Between two calls the last log files of an engine that hasn't failed hold only records that calls
+/// completed, so none that stood there before a renaming. This needs that only writes failed on them, and
+/// that the opening found no record of a failed call.
+pub fn last_files_are_completed<F: FileSystem>()
+    ensures { LastFilesAreCompleted F.FileSystem }
+{}
 
 /// A kill is a crash that leaves every byte as it is: a crash may leave consistent files so. All
 /// files in memory and of a folder are consistent.
