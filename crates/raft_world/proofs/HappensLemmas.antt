@@ -394,25 +394,25 @@ module _ {F H R W : Type 0} (g : Ghosts F H R W) (folders : Folders) where
 
     -- All.
 
-    keeps_all : (numbered : Bool) (node : Node g) (l : Ledger) → Happens g folders numbered node l → Keeps node l
-    keeps_all numbered _ _ (Begins n none clear) =
+    keeps_all : (first : Ledger) (node : Node g) (l : Ledger) → Happens g folders first node l → Keeps node l
+    keeps_all first _ _ (Begins n none clear starts) =
         let empty = laws.none folders n none clear in
-        ∣ standing no_contents [] (starts_with no_contents) n empty.1 (λ found only. subst (MayFind (starts_with no_contents)) (sym (alone no_contents found only)) (may_find_accepted (starts_with no_contents))) (no_log_detectable folders n none) ∣₁
-    keeps_all numbered _ _ (BeginsWith e same alive acts) = ∣ (record { folders_are = same; durable_is = refl; stands = λ _. refl; choice = []; unsynced_is = sym (append-nil (unsynced_of e)) }) ∣₁
-    keeps_all numbered _ _ (Opened config files l later e before opens left) = opened config files later l e opens left
-    keeps_all numbered _ _ (OpeningFailed config files l r before opens clean) = ∥∥₁_map (keeps_all numbered (Down (g.directory files)) l before) (λ k. opening_failed config files l r k opens clean)
-    keeps_all numbered _ _ (Called e later l d before call stands) = ∥∥₁_map (keeps_all numbered (Running e) l before) (λ k. called e later l d k call stands)
-    keeps_all numbered _ _ (Failed e later l d before call alive fails) = ∥∥₁_map (keeps_all numbered (Running e) l before) (λ k. failed e later l d k call alive fails)
-    keeps_all numbered _ _ (Rested e later l d before call gone) = ∥∥₁_map (keeps_all numbered (Running e) l before) (λ k. rested e later l d k call gone)
-    keeps_all numbered _ _ (Closed e l files before closes) = ∥∥₁_map (keeps_all numbered (Running e) l before) (λ k. closed e l files k closes)
-    keeps_all numbered _ _ (Reopened e later l before reopens) = ∥∥₁_map (keeps_all numbered (Running e) l before) (λ k. reopened e later l k reopens)
-    keeps_all numbered _ _ (GivenUp e l files before gives clean) = ∥∥₁_map (keeps_all numbered (Running e) l before) (λ k. given_up e l files k gives clean)
-    keeps_all numbered _ _ (Restarted n later l before anew) = ∥∥₁_map (keeps_all numbered (Down n) l before) (λ k. restarted l n later k anew)
-    keeps_all numbered _ _ (Untouched n later l before same) = ∥∥₁_map (keeps_all numbered (Down n) l before) (λ k. untouched l n later k same)
-    keeps_all numbered _ _ (InsideCall e later l d n before call alive moment) = ∥∥₁_elim (keeps_all numbered (Running e) l before) ∥∥₁_prop (λ k. inside_call e later l d n k call alive moment)
-    keeps_all numbered _ _ (InsideClose e l after n before ends moment) = ∥∥₁_map (keeps_all numbered (Running e) l before) (λ k. inside_close e l after n k ends moment)
-    keeps_all numbered _ _ (InsideOpening config files l answer n before opens moment) = ∥∥₁_map (keeps_all numbered (Down (g.directory files)) l before) (λ k. inside_opening config files l answer n k opens moment)
-    keeps_all numbered _ _ (Crashed node l after before crash) = ∥∥₁_map (leaving node l (keeps_all numbered node l before)) (λ k. crashed l (files_of g node) after k crash)
+        ∣ subst (KeepsDown n) (sym starts) (standing no_contents [] (starts_with no_contents) n empty.1 (λ found only. subst (MayFind (starts_with no_contents)) (sym (alone no_contents found only)) (may_find_accepted (starts_with no_contents))) (no_log_detectable folders n none)) ∣₁
+    keeps_all first _ _ (BeginsWith e same alive starts) = ∣ subst (KeepsUp e) (sym starts) (record { folders_are = same; durable_is = refl; stands = λ _. refl; choice = []; unsynced_is = sym (append-nil (unsynced_of e)) }) ∣₁
+    keeps_all first _ _ (Opened config files l later e before opens left) = opened config files later l e opens left
+    keeps_all first _ _ (OpeningFailed config files l r before opens clean) = ∥∥₁_map (keeps_all first (Down (g.directory files)) l before) (λ k. opening_failed config files l r k opens clean)
+    keeps_all first _ _ (Called e later l d before call stands) = ∥∥₁_map (keeps_all first (Running e) l before) (λ k. called e later l d k call stands)
+    keeps_all first _ _ (Failed e later l d before call alive fails) = ∥∥₁_map (keeps_all first (Running e) l before) (λ k. failed e later l d k call alive fails)
+    keeps_all first _ _ (Rested e later l d before call gone) = ∥∥₁_map (keeps_all first (Running e) l before) (λ k. rested e later l d k call gone)
+    keeps_all first _ _ (Closed e l files before closes) = ∥∥₁_map (keeps_all first (Running e) l before) (λ k. closed e l files k closes)
+    keeps_all first _ _ (Reopened e later l before reopens) = ∥∥₁_map (keeps_all first (Running e) l before) (λ k. reopened e later l k reopens)
+    keeps_all first _ _ (GivenUp e l files before gives clean) = ∥∥₁_map (keeps_all first (Running e) l before) (λ k. given_up e l files k gives clean)
+    keeps_all first _ _ (Restarted n later l before anew) = ∥∥₁_map (keeps_all first (Down n) l before) (λ k. restarted l n later k anew)
+    keeps_all first _ _ (Untouched n later l before same) = ∥∥₁_map (keeps_all first (Down n) l before) (λ k. untouched l n later k same)
+    keeps_all first _ _ (InsideCall e later l d n before call alive moment) = ∥∥₁_elim (keeps_all first (Running e) l before) ∥∥₁_prop (λ k. inside_call e later l d n k call alive moment)
+    keeps_all first _ _ (InsideClose e l after n before ends moment) = ∥∥₁_map (keeps_all first (Running e) l before) (λ k. inside_close e l after n k ends moment)
+    keeps_all first _ _ (InsideOpening config files l answer n before opens moment) = ∥∥₁_map (keeps_all first (Down (g.directory files)) l before) (λ k. inside_opening config files l answer n k opens moment)
+    keeps_all first _ _ (Crashed node l after before crash) = ∥∥₁_map (leaving node l (keeps_all first node l before)) (λ k. crashed l (files_of g node) after k crash)
 
     -- What openings find.
 
@@ -433,14 +433,14 @@ module _ {F H R W : Type 0} (g : Ghosts F H R W) (folders : Folders) where
     find_prop l config files (Ok e) = hlevel props
     find_prop l config files (Err r) = hlevel (props, fails_prop (g.refusals_of files) (g.refusals_of r.file_system) r.fault)
 
-    pub is_safe : (numbered : Bool) (node : Node g) (l : Ledger) → Happens g folders numbered node l → Holds g folders node l
-    is_safe numbered (Running e) l happened = λ alive. ∥∥₁_elim (keeps_all numbered (Running e) l happened) (hlevel props) (λ k. up_holds e l k alive)
-    is_safe numbered (Inside n) l happened = tt
-    is_safe numbered (Down n) l happened = λ config files answer is opens. ∥∥₁_elim (keeps_all numbered (Down n) l happened) (find_prop l config files answer) (λ k. find l config files (subst (λ (x : Directory). KeepsDown x l) (sym is) k) answer opens)
+    pub is_safe : (first : Ledger) (node : Node g) (l : Ledger) → Happens g folders first node l → Holds g folders node l
+    is_safe first (Running e) l happened = λ alive. ∥∥₁_elim (keeps_all first (Running e) l happened) (hlevel props) (λ k. up_holds e l k alive)
+    is_safe first (Inside n) l happened = tt
+    is_safe first (Down n) l happened = λ config files answer is opens. ∥∥₁_elim (keeps_all first (Down n) l happened) (find_prop l config files answer) (λ k. find l config files (subst (λ (x : Directory). KeepsDown x l) (sym is) k) answer opens)
 
-    pub continues : (numbered : Bool) (config : Config) (files : F) (l : Ledger) (e : Engine F H R W g) → Happens g folders numbered (Down (g.directory files)) l → HasOpened g folders config files (Ok e) → ∥ ((later : Ledger) × (contents_of e ≡ accepted_contents later) × MayRecover l later (contents_of e) × Happens g folders numbered (Running e) later) ∥₁
-    continues numbered config files l e before opens =
-        ∥∥₁_elim (is_safe numbered (Down (g.directory files)) l before config files (Ok e) refl opens).ok.3 ∥∥₁_prop (λ (later, may). ∥∥₁_map may (λ (written, count, is, found).
+    pub continues : (first : Ledger) (config : Config) (files : F) (l : Ledger) (e : Engine F H R W g) → Happens g folders first (Down (g.directory files)) l → HasOpened g folders config files (Ok e) → ∥ ((later : Ledger) × (contents_of e ≡ accepted_contents later) × MayRecover l later (contents_of e) × Happens g folders first (Running e) later) ∥₁
+    continues first config files l e before opens =
+        ∥∥₁_elim (is_safe first (Down (g.directory files)) l before config files (Ok e) refl opens).ok.3 ∥∥₁_prop (λ (later, may). ∥∥₁_map may (λ (written, count, is, found).
         (later, found, may, Opened config files l later e before opens may)))
 
     -- Beside the law.
@@ -449,5 +449,5 @@ module _ {F H R W : Type 0} (g : Ghosts F H R W) (folders : Folders) where
     first_read read l n after keeps fallen = ∥∥₁_map (keeps.leaves fallen.left fallen.leaves).first (λ (rewritten, appended, first, next, may).
         (rewritten, appended, first.0, next.0, read Rewrite folders n after fallen.left fallen.restarted ∙ first.1, read Append folders n after fallen.left fallen.restarted ∙ next.1, keeps.allowed (recovered rewritten appended) may))
 
-    pub kept_read_first : LeftIsRead → (numbered : Bool) (node : Node g) (l : Ledger) → Happens g folders numbered node l → (after : Directory) → IsAfterCrash (files_of g node) after → ReadsFirst (MayFind l) folders after
-    kept_read_first read numbered node l happened after fallen = ∥∥₁_elim (leaving node l (keeps_all numbered node l happened)) ∥∥₁_prop (λ k. first_read read l (files_of g node) after k fallen)
+    pub kept_read_first : LeftIsRead → (first : Ledger) (node : Node g) (l : Ledger) → Happens g folders first node l → (after : Directory) → IsAfterCrash (files_of g node) after → ReadsFirst (MayFind l) folders after
+    kept_read_first read first node l happened after fallen = ∥∥₁_elim (leaving node l (keeps_all first node l happened)) ∥∥₁_prop (λ k. first_read read l (files_of g node) after k fallen)

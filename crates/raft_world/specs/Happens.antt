@@ -19,7 +19,7 @@ use Rattle.raft_log_engine.specs.Engine.{IsAllSynced, contents_of, directory_of,
 use Rattle.raft_log_engine.specs.Opening.{Opens, opened_files}
 use Rattle.raft_log_engine.specs.declared.engine.Engine.{Engine}
 use Rattle.raft_log_engine.specs.declared.engine.Refused.{Refused}
-use Rattle.raft_world.specs.Call.{Closes, Ends, GivesUp, HasEffect, MayFollow, Reopens}
+use Rattle.raft_world.specs.Call.{Closes, Ends, GivesUp, HasEffect, Reopens}
 use Rattle.raft_world.specs.Ledger.{Effect, Ledger, MayFind, MayRecover, accepted_contents, after_effect, all_durable, interrupted, starts_with}
 
 -- settings that contradict nothing, and tolerate a broken end of a log
@@ -82,17 +82,15 @@ abbrev pub ledger_of : {F H R W : Type 0} {g : Ghosts F H R W} → Engine F H R 
 ledger_of e =
     record { start = durable_of e; durable = []; unsynced = unsynced_of e; in_flight = [] }
 
-module _ {F H R W : Type 0} (g : Ghosts F H R W) (folders : Folders) (numbered : Bool) where
-  -- everything that may happen to a log. `numbered` is asked for by the law of numbers alone
+module _ {F H R W : Type 0} (g : Ghosts F H R W) (folders : Folders) (first : Ledger) where
+  -- everything that may happen to a log that began with this ledger
   pub data Happens : Node g → Ledger → Type 0 where
     -- the folders have no log file
     Begins : (n : Directory) → HasNoLog folders n → AreClear folders n
-        → Happens (Down n) (starts_with no_contents)
-    -- or there is any engine that hasn't failed; for the law of numbers, its unsynced batches have
-    -- numbers as calls write them (after an opening there are none)
+        → first ≡ starts_with no_contents → Happens (Down n) first
+    -- or there is any engine that hasn't failed
     BeginsWith : (e : Engine F H R W g) → folders_of e ≡ folders → has_failed e ≡ false
-        → (numbered ≡ true → MayFollow (durable_of e) (unsynced_of e))
-        → Happens (Running e) (ledger_of e)
+        → first ≡ ledger_of e → Happens (Running e) first
     -- an opening returns an engine
     Opened : (config : Config) (files : F) (l later : Ledger) (e : Engine F H R W g)
         → Happens (Down (g.directory files)) l → HasOpened g folders config files (Ok e)
@@ -150,7 +148,7 @@ module _ {F H R W : Type 0} (g : Ghosts F H R W) (folders : Folders) (numbered :
 
 module _ {F H R W : Type 0} (g : Ghosts F H R W) (folders : Folders) where
   -- an opening of files with this ledger returns an engine in these folders that hasn't failed, is
-  -- all synced and holds contents that may be found; or it fails. With tolerant settings it fails by
+  -- all synced and holds contents that may be found; or it fails, with tolerant settings only by
   -- storage, which counted the failure, or out of memory
   pub record FindsOnly (l : Ledger) (config : Config) (files : F)
       (answer : Result (Engine F H R W g) (Refused F)) : Type 0 where
@@ -170,14 +168,14 @@ module _ {F H R W : Type 0} (g : Ghosts F H R W) (folders : Folders) where
 
 -- the law
 abbrev pub TheLogIsSafe : {F H R W : Type 0} → Ghosts F H R W → Type 0
-TheLogIsSafe g = (folders : Folders) (numbered : Bool) (node : Node g) (l : Ledger)
-    → Happens g folders numbered node l → Holds g folders node l
+TheLogIsSafe g = (folders : Folders) (first : Ledger) (node : Node g) (l : Ledger)
+    → Happens g folders first node l → Holds g folders node l
 
 -- the events continue after an opening, with a ledger of what it found
 abbrev pub OpeningsContinue : {F H R W : Type 0} → Ghosts F H R W → Type 0
-OpeningsContinue {F} {H} {R} {W} g = (folders : Folders) (numbered : Bool) (config : Config)
+OpeningsContinue {F} {H} {R} {W} g = (folders : Folders) (first : Ledger) (config : Config)
     (files : F) (l : Ledger) (e : Engine F H R W g)
-    → Happens g folders numbered (Down (g.directory files)) l
+    → Happens g folders first (Down (g.directory files)) l
     → HasOpened g folders config files (Ok e)
     → ∥ ((later : Ledger) × (contents_of e ≡ accepted_contents later)
-    × MayRecover l later (contents_of e) × Happens g folders numbered (Running e) later) ∥₁
+    × MayRecover l later (contents_of e) × Happens g folders first (Running e) later) ∥₁

@@ -1,5 +1,5 @@
 -- Without the premise: what is read first of the files after a crash with any damage.
-use Rattle.std.specs.Prelude.{◌≡◌, ◌++◌, false, List}
+use Rattle.std.specs.Prelude.{◌≡◌, ◌++◌, List}
 use Rattle.raft_base.specs.declared.pipe_log.LogQueue.TheVariants.{Append, Rewrite}
 use Rattle.raft_records.specs.Contents.{Contents}
 use Rattle.raft_records.specs.Item.{Batch}
@@ -18,9 +18,9 @@ ReadsFirst P folders n = ∥ ((rewritten appended later more : List Batch)
     × (readable_queue Append folders n ≡ appended ++ more)
     × P (recovered rewritten appended)) ∥₁
 
--- what is read first after a crash with any damage is what an opening may find: of a node between two
--- calls, inside a call, a close or an opening, or down
+-- what is read first after a crash with any damage is what an opening may find: of a node between
+-- two calls, inside a call, a close or an opening, or down
 abbrev pub WhatIsKeptIsReadFirst : {F H R W : Type 0} → Ghosts F H R W → Type 0
-WhatIsKeptIsReadFirst g = (folders : Folders) (node : Node g) (l : Ledger)
-    → Happens g folders false node l → (after : Directory)
+WhatIsKeptIsReadFirst g = (folders : Folders) (first : Ledger) (node : Node g) (l : Ledger)
+    → Happens g folders first node l → (after : Directory)
     → IsAfterCrash (files_of g node) after → ReadsFirst (MayFind l) folders after

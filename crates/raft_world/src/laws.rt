@@ -17,9 +17,9 @@ use raft_log_engine::laws::crash_leaves_contents;
 use raft_once::laws::a_number_acts_once;
 use raft_queue_laws::queue::{crash_leaves_a_prefix, queues_stand_side_by_side};
 
-/// The headline. After anything that may happen to a log, an engine that hasn't failed holds all that
-/// was accepted, and an opening finds what no crash takes, with a first part of the rest; or it fails,
-/// with a cause.
+/// The headline. After anything that may happen to a log, an engine that hasn't failed holds all
+/// that was accepted, and an opening finds what no crash takes, with a first part of the rest; or it
+/// fails, with a cause.
 pub fn the_log_is_safe<F: FileSystem>()
     ensures { TheLogIsSafe F.FileSystem }
 {
@@ -54,7 +54,7 @@ pub fn a_crash_in_a_call_leaves_a_prefix<F: FileSystem>()
     queues_stand_side_by_side();
 }
 
-/// After a crash with any damage, also if that isn't detectable, the durable batches are read first.
+/// After a crash with any damage, also if it isn't detectable, the durable batches are read first.
 /// The crash may come between two calls, or inside a call, a close or an opening.
 pub fn what_is_kept_is_read_first<F: FileSystem>()
     ensures { WhatIsKeptIsReadFirst F.FileSystem }
@@ -64,9 +64,9 @@ pub fn what_is_kept_is_read_first<F: FileSystem>()
     crash_leaves_a_prefix();
 }
 
-/// Between two calls the last log files of an engine that hasn't failed hold only records that calls
-/// completed, so none that stood there before a renaming. This needs that only writes failed on them, and
-/// that the opening found no record of a failed call.
+/// Between two calls the last log files of an engine that hasn't failed hold only records that
+/// calls completed, so none that was there before a renaming. This needs that only writes failed on
+/// them, and that the opening found no record of a failed call.
 pub fn last_files_are_completed<F: FileSystem>()
     ensures { LastFilesAreCompleted F.FileSystem }
 {}

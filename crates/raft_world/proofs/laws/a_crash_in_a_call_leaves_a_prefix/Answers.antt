@@ -1,4 +1,4 @@
-use Rattle.std.proofs.Common.{◌≡◌, true, false, refl}
+use Rattle.std.proofs.Common.{refl}
 use Rattle.raft_log_engine.proofs.EngineLemmas.{engine_keeps}
 use Rattle.raft_log_engine.specs.Engine.{folders_of}
 use Rattle.raft_world.specs.Happens.{BeginsWith, Crashed, Down, Inside, InsideCall, ledger_of}
@@ -22,5 +22,5 @@ returns g c = λ old new effect n config files answer call alive moment crash op
     } in
     let after = g.F.FileSystem.directory files in
     let torn = interrupted effect (ledger_of old) in
-    is_safe g.F.FileSystem (folders_of old) laws (λ e. engine_keeps e) false (Down after) torn
-    (Crashed (Inside n) torn after (InsideCall old new (ledger_of old) effect n (BeginsWith old refl alive (λ clash. absurd (let no : false ≡ true = clash in cc))) call alive moment) crash) config files answer refl opens
+    is_safe g.F.FileSystem (folders_of old) laws (λ e. engine_keeps e) (ledger_of old) (Down after) torn
+    (Crashed (Inside n) torn after (InsideCall old new (ledger_of old) effect n (BeginsWith old refl alive refl) call alive moment) crash) config files answer refl opens

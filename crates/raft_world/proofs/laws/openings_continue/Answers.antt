@@ -4,7 +4,7 @@ use Rattle.raft_world.proofs.Below.{CrashLaws}
 use Rattle.raft_world.proofs.laws.openings_continue.Goals as goal
 
 pub returns : goal.returns
-returns g c = λ folders numbered config files l e before opens.
+returns g c = λ folders first config files l e before opens.
     let laws : CrashLaws = record {
       left = c.crash_leaves_contents.ensures.left;
       restarted = c.crash_leaves_contents.ensures.restarted;
@@ -16,4 +16,4 @@ returns g c = λ folders numbered config files l e before opens.
       single = c.crash_leaves_contents.ensures.single;
       beside = c.queues_stand_side_by_side.ensures.recovers;
     } in
-    continues g.F.FileSystem folders laws (λ e. engine_keeps e) numbered config files l e before opens
+    continues g.F.FileSystem folders laws (λ e. engine_keeps e) first config files l e before opens
