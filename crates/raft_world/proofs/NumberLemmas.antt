@@ -16,7 +16,7 @@ use Rattle.raft_world.specs.Call.{HasEffect, MayFollow}
 use Rattle.raft_world.proofs.Below.{CrashLaws, OnceLaw}
 use Rattle.raft_world.specs.Ledger.{Effect, Ledger, all_durable, durable_contents, interrupted, accepted_contents, after_crash, starts_with}
 use Rattle.raft_world.specs.Once.{ActsOnce}
-use Rattle.raft_world.specs.Happens.{Happens, Node, Running, Inside, Down, Begins, BeginsWith, Opened, OpeningFailed, Called, Failed, Rested, Closed, Reopened, GivenUp, Restarted, Untouched, InsideCall, InsideClose, InsideOpening, Crashed, ledger_of}
+use Rattle.raft_world.specs.Happens.{Happens, Node, Running, Down, Begins, BeginsWith, Opened, OpeningFailed, Called, Failed, Rested, Closed, Reopened, GivenUp, Restarted, Untouched, InsideCall, InsideClose, InsideOpening, Crashed, ledger_of}
 use Rattle.raft_world.proofs.LedgerLemmas.{after-append, after_accepting}
 use Rattle.raft_world.proofs.HappensLemmas.{is_safe}
 

@@ -3,7 +3,7 @@
 -- Read `Happens` line by line: each line is one event. The law is `TheLogIsSafe`: after any events,
 -- an engine that hasn't failed holds what its log accepted, and an opening of the files finds only
 -- what the log may hold.
-use Rattle.std.specs.Prelude.{◌≡◌, ◌⊎◌, ◌++◌, [], ◌∷◌, true, false, Bool, List, None, Ok, Err, Result, IfErr, IfOk}
+use Rattle.std.specs.Prelude.{◌≡◌, ◌⊎◌, ◌++◌, [], ◌∷◌, true, false, List, None, Ok, Err, Result, IfErr, IfOk}
 use Rattle.raft_records.specs.Contents.{no_contents}
 use Rattle.raft_env.specs.Directory.{CrashImage, Directory, IsRestarted, Leaves, Path, file_at}
 use Rattle.raft_env.specs.Refusal.{FailsAt}
