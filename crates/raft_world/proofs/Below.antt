@@ -1,5 +1,5 @@
 -- What the crates below prove, as the lemmas here take it.
-use Rattle.std.specs.Prelude.{◌≡◌, ℕ, List, []}
+use Rattle.std.specs.Prelude.{◌≡◌, ◌≢◌, ℕ, List, []}
 use Rattle.raft_base.specs.declared.pipe_log.LogQueue.{LogQueue}
 use Rattle.raft_records.specs.Contents.{Contents, no_contents}
 use Rattle.raft_records.specs.Item.{Batch}
@@ -9,12 +9,22 @@ use Rattle.raft_config.specs.declared.config.RecoveryMode.{RecoveryMode}
 use Rattle.raft_config.specs.declared.config.RecoveryMode.TheVariants.{AbsoluteConsistency}
 use Rattle.raft_files.specs.Records.{as_it_is}
 use Rattle.raft_once.specs.History.{Act, ActedOnce, MayAllAct, acted_after}
-use Rattle.raft_pipes.specs.Folder.{AreClear, HasNoLog, readable_queue}
+use Rattle.raft_pipes.specs.Counts.{QueueCounts}
+use Rattle.raft_pipes.specs.Folder.{AreClear, HasNoLog, LeavesOtherFiles, LeavesOtherQueue, readable_queue}
+use Rattle.raft_pipes.specs.Queue.{RecoversPrefixOf}
 use Rattle.raft_crash_laws.specs.Contents.{contents_at}
 use Rattle.raft_crash_laws.specs.Crash.{IsAllowedFrom, LeavesAllowed, RecoversContents, contents_after_crash, left_of_queue}
 use Rattle.raft_crash_laws.specs.Queues.{AreDetectableIn, AreOpenableIn, AreSingleIn, AreSoundIn}
 
--- clauses of raft_log_engine's law crash_leaves_contents
+-- raft_queue_laws' law queues_stand_side_by_side, clause `recovers`
+abbrev pub BesideLaw : Type 0
+BesideLaw = (changed other : LogQueue) → other ≢ changed → (folders : Folders) (old n : Directory)
+    → LeavesOtherFiles folders old n → LeavesOtherQueue changed folders old n
+    → (batches : List Batch) (counts : QueueCounts)
+    → RecoversPrefixOf other folders batches counts old
+    → RecoversPrefixOf other folders batches counts n
+
+-- clauses of raft_log_engine's law crash_leaves_contents, and `beside`
 pub record CrashLaws : Type 0 where
   pub left : (folders : Folders) (m : Contents) (batches : List Batch) (n : Directory)
       → RecoversContents folders m batches n → LeavesAllowed folders m batches n
@@ -36,6 +46,7 @@ pub record CrashLaws : Type 0 where
       → RecoversContents folders m batches n → AreClear folders n
   pub single : (folders : Folders) (m : Contents) (batches : List Batch) (n : Directory)
       → RecoversContents folders m batches n → AreSingleIn folders n
+  pub beside : BesideLaw
 
 -- raft_once's law a_number_acts_once, clause `once`
 abbrev pub OnceLaw : Type 0

@@ -23,13 +23,13 @@ use Rattle.raft_log_engine.specs.Once.{acting_batch}
 use Rattle.raft_log_engine.specs.Reads.{compact_batch}
 use Rattle.raft_log_engine.specs.declared.engine.Engine.{Engine}
 use Rattle.raft_log_engine.proofs.EngineLemmas.{engine_keeps, engine_leaves}
-use Rattle.raft_config.specs.Folders.{Folders}
+use Rattle.raft_config.specs.Folders.{folders_in}
 use Rattle.raft_config.specs.declared.config.Config.{Config}
 use Rattle.raft_log_engine.specs.Opening.{Opens}
 use Rattle.raft_log_engine.specs.declared.engine.Refused.{Refused}
 use Rattle.raft_world.specs.Call.{Ends, HasEffect, MayFollow}
-use Rattle.raft_world.specs.Happens.{HasOpened, TolerateIn}
-use Rattle.raft_world.specs.Effects.{ArmingHasNoEffect, CloseEnds, CompactionHasEffect, GiveUpEnds, PurgeHasEffect, ReadHasNoEffect, ReopenEnds, SyncHasEffect, WriteGroupHasEffect, WriteHasEffect, WriteOnceHasEffect, no_effect, write_effect}
+use Rattle.raft_world.specs.Happens.{HasOpened}
+use Rattle.raft_world.specs.Effects.{ArmingHasNoEffect, CloseEnds, CompactionHasEffect, GiveUpEnds, KillEnds, PurgeHasEffect, ReadHasNoEffect, ReopenEnds, SyncHasEffect, WriteGroupHasEffect, WriteHasEffect, WriteOnceHasEffect, no_effect, write_effect}
 use Rattle.raft_world.proofs.NumberLemmas.{none_chosen, none_follow}
 use Rattle.raft_world.proofs.PlainLemmas.{accepted_follow, compact_follows, once_follows, part_plain, parts_follow, plain_follows}
 
@@ -215,10 +215,13 @@ module _ {F H R W : Type 0} (g : Ghosts F H R W) where
   pub give_up_ends : GiveUpEnds g
   give_up_ends old files keeps = record { keeps = inl keeps }
 
+  pub kill_ends : KillEnds g
+  kill_ends old files same = record { keeps = inl (subst (RecoversContents (folders_of old) (durable_of old) (unsynced_of old)) (sym same) (engine_keeps old)) }
+
   pub ends_by : (old : Engine F H R W g) (files : F) → HoldsThroughout (moments_of old) (g.moments files) (g.directory files) (LeavesAllowed (folders_of old) (durable_of old) (unsynced_of old)) → Ends old files
   ends_by old files any_moment = record { any_moment = any_moment }
 
   -- Openings.
 
-  pub opened_by : (config : Config) (files : F) (answer : Result (Engine F H R W g) (Refused F)) → Opens config files answer → (folders : Folders) → TolerateIn folders config → HasOpened g folders files answer
-  opened_by config files answer opens folders tolerant = record { config = config; tolerant = tolerant; opens = opens }
+  pub opened_by : (config : Config) (files : F) (answer : Result (Engine F H R W g) (Refused F)) → Opens config files answer → HasOpened g (folders_in config) config files answer
+  opened_by config files answer opens = record { same = refl; opens = opens }

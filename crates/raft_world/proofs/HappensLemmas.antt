@@ -10,17 +10,19 @@ use Rattle.raft_base.specs.declared.errors.Fault.{Fault}
 use Rattle.raft_base.specs.declared.errors.Fault.TheVariants as fault
 use Rattle.raft_records.specs.Contents.{Contents, after_batches, no_contents}
 use Rattle.raft_records.specs.Item.{Batch}
-use Rattle.raft_env.specs.Directory.{Directory}
+use Rattle.raft_env.specs.Directory.{CrashImage, Directory, IsRestarted}
 use Rattle.raft_env.specs.Moments.{HoldsThroughout}
 use Rattle.raft_env.specs.Refusal.{FailsAt, Refusals}
 use Rattle.raft_env.specs.declared.env.FileSystem.{Ghosts}
 use Rattle.raft_config.specs.Folders.{Folders, folders_in}
+use Rattle.raft_config.specs.declared.config.Config.{Config}
 use Rattle.raft_config.specs.Sanitized.{IsContradiction}
 use Rattle.raft_config.specs.declared.config.RecoveryMode.{RecoveryMode}
 use Rattle.raft_config.specs.declared.config.RecoveryMode.TheVariants.{AbsoluteConsistency}
 use Rattle.raft_crash_laws.specs.Contents.{contents_at}
 use Rattle.raft_crash_laws.specs.Crash.{IsAllowedFrom, LeavesAllowed, RecoversContents, StillRecovers, contents_after_crash}
-use Rattle.raft_crash_laws.specs.Queues.{AreOpenableIn, IsOpeningRefusal}
+use Rattle.raft_crash_laws.specs.Queues.{AreOpenableIn, AreSoundIn, IsOpeningRefusal}
+use Rattle.raft_files.specs.Records.{as_it_is}
 use Rattle.raft_log_engine.specs.Durability.{Durability, after_call, durability_of}
 use Rattle.raft_log_engine.specs.Engine.{base_of, contents_of, directory_of, durable_of, folders_of, found_of, has_failed, moments_of, unsynced_of}
 use Rattle.raft_log_engine.specs.Group.{LeavesChoice, chosen_of}
@@ -29,13 +31,15 @@ use Rattle.raft_log_engine.specs.declared.engine.Engine.{Engine}
 use Rattle.raft_log_engine.specs.declared.engine.Refused.{Refused}
 use Rattle.raft_base.specs.declared.pipe_log.LogQueue.TheVariants.{Append, Rewrite}
 use Rattle.raft_recovery_laws.specs.Recovered.{recovered}
-use Rattle.raft_world.specs.ReadFirst.{IsAfterCrash, ReadsFirst}
+use Rattle.raft_world.specs.ReadFirst.{ReadsFirst}
 use Rattle.raft_world.specs.Call.{Closes, Ends, GivesUp, HasEffect, Reopens}
 use Rattle.raft_world.proofs.Below.{CrashLaws, LeftIsRead}
 use Rattle.raft_world.proofs.RefusalLemmas.{no_log_detectable, refused_outside}
+use Rattle.raft_world.proofs.SoundLemmas.{openable_is_sound, read_as_it_is}
+use Rattle.raft_world.proofs.UntouchedLemmas.{contents_stay, still_openable, still_recovers}
 use Rattle.raft_config.proofs.ConfigLemmas.{no_contradiction}
 use Rattle.raft_world.specs.Ledger.{Effect, MayRecover, Ledger, MayFind, after_effect, all_durable, interrupted, durable_contents, accepted_contents, after_crash, starts_with}
-use Rattle.raft_world.specs.Happens.{FindsOnly, Happens, HasCrashed, HasOpened, Holds, IsMoment, Node, Running, Down, Begins, BeginsWith, Opened, OpeningFailed, Called, Failed, Rested, Closed, Reopened, GivenUp, Killed, Crashed, CrashedInCall, CrashedInClose, CrashedInOpening, KilledInOpening, files_of, AreDetectable}
+use Rattle.raft_world.specs.Happens.{AreDetectable, FindsOnly, Happens, HasCrashed, HasOpened, Holds, IsAfterCrash, IsMoment, IsMomentOfOpening, IsTolerant, LeavesLog, Node, Running, Inside, Down, Begins, BeginsWith, Opened, OpeningFailed, Called, Failed, Rested, Closed, Reopened, GivenUp, Restarted, Untouched, InsideCall, InsideClose, InsideOpening, Crashed, files_of}
 use Rattle.raft_world.proofs.LedgerLemmas.{after-append, after_accepting, all_durable_accepted, may_find_accepted, may_find_left}
 
 -- Moments.
@@ -71,19 +75,27 @@ module _ {F H R W : Type 0} (g : Ghosts F H R W) (folders : Folders) where
     choice : List Bool
     unsynced_is : unsynced_of e ≡ l.unsynced ++ chosen_of (accepted_contents l) choice l.in_flight
 
-  -- files with this log: they keep contents and batches, of which what may be left may be left of the log, and
-  -- what stands in them now may too
-  record KeepsDown (files : F) (l : Ledger) : Type 0 where
+  -- files at a moment of a call with this log: what a crash may leave of contents and batches may be left of the log
+  record KeepsInside (n : Directory) (l : Ledger) : Type 0 where
     m : Contents
     batches : List Batch
-    keeps : RecoversContents folders m batches (g.directory files)
+    leaves : LeavesAllowed folders m batches n
     allowed : (found : Contents) → IsAllowedFrom 0 m batches found → MayFind l found
-    is : MayFind l (contents_at folders (g.directory files))
-    openable : (mode : RecoveryMode) → (mode ≡ AbsoluteConsistency → ⊥) → AreOpenableIn mode folders (g.directory files)
 
-  abbrev Keeps : Node g folders → Ledger → Type 0
+  -- files with this log: they keep contents and batches, of which what may be left may be left of the log, and
+  -- what stands in them now may too
+  record KeepsDown (n : Directory) (l : Ledger) : Type 0 where
+    m : Contents
+    batches : List Batch
+    keeps : RecoversContents folders m batches n
+    allowed : (found : Contents) → IsAllowedFrom 0 m batches found → MayFind l found
+    is : MayFind l (contents_at folders n)
+    openable : (mode : RecoveryMode) → (mode ≡ AbsoluteConsistency → ⊥) → AreOpenableIn mode folders n
+
+  abbrev Keeps : Node g → Ledger → Type 0
   Keeps (Running e) l = ∥ KeepsUp e l ∥₁
-  Keeps (Down files) l = ∥ KeepsDown files l ∥₁
+  Keeps (Inside n) l = ∥ KeepsInside n l ∥₁
+  Keeps (Down n) l = ∥ KeepsDown n l ∥₁
 
   -- what an engine holds
   all_held : (e : Engine F H R W g) → contents_of e ≡ after_batches (durable_of e) (unsynced_of e)
@@ -102,34 +114,50 @@ module _ {F H R W : Type 0} (g : Ghosts F H R W) (folders : Folders) where
 
   -- by what stands below
   module _ (laws : CrashLaws) (kept : (e : Engine F H R W g) → RecoversContents (folders_of e) (durable_of e) (unsynced_of e) (directory_of e)) where
-    -- A crash.
+    -- A crash, and a restart.
 
-    crashed : (m : Contents) (batches : List Batch) (l : Ledger) (n : Directory) (files : F) → LeavesAllowed folders m batches n → ((found : Contents) → IsAllowedFrom 0 m batches found → MayFind l found) → HasCrashed g folders n files → KeepsDown files l
-    crashed m batches l n files leaves allowed crash =
-        let here = leaves crash.left crash.leaves in
-        let c = contents_after_crash folders n crash.left in
-        let sound = here.sound crash.detectable in
-        let may_be : MayFind l c = allowed c (here.found crash.detectable) in
-        let found : contents_at folders (g.directory files) ≡ c = laws.found folders n (g.directory files) crash.left crash.restarted in
-        record {
-          m = c;
-          batches = [];
-          keeps = laws.restarted folders n (g.directory files) crash.left crash.restarted sound;
-          allowed = λ x only. subst (MayFind l) (sym (alone c x only)) may_be;
-          is = subst (MayFind l) (sym found) may_be;
-          openable = laws.opens folders n (g.directory files) crash.left crash.restarted sound;
-        }
+    -- files that were read anew from those that were left
+    settled : (l : Ledger) (n after : Directory) (left : CrashImage) → IsRestarted n left after → AreSoundIn folders n left → MayFind l (contents_after_crash folders n left) → KeepsDown after l
+    settled l n after left restarted sound may_be = record {
+      m = contents_after_crash folders n left;
+      batches = [];
+      keeps = laws.restarted folders n after left restarted sound;
+      allowed = λ x only. subst (MayFind l) (sym (alone (contents_after_crash folders n left) x only)) may_be;
+      is = subst (MayFind l) (sym (laws.found folders n after left restarted)) may_be;
+      openable = laws.opens folders n after left restarted sound;
+    }
+
+    crashed : (l : Ledger) (n after : Directory) → KeepsInside n l → HasCrashed folders n after → KeepsDown after l
+    crashed l n after keeps has =
+        let here = keeps.leaves has.crash.left has.crash.leaves in
+        settled l n after has.crash.left has.crash.restarted (here.sound has.detectable) (keeps.allowed (contents_after_crash folders n has.crash.left) (here.found has.detectable))
+
+    restarted : (l : Ledger) (n later : Directory) → KeepsDown n l → IsRestarted n (as_it_is n) later → KeepsDown later l
+    restarted l n later keeps anew =
+        settled l n later (as_it_is n) anew
+        (openable_is_sound folders n (laws.clear folders keeps.m keeps.batches n keeps.keeps) (laws.single folders keeps.m keeps.batches n keeps.keeps) keeps.openable)
+        (subst (MayFind l) (sym (read_as_it_is folders n)) keeps.is)
+
+    untouched : (l : Ledger) (n later : Directory) → KeepsDown n l → LeavesLog folders n later → KeepsDown later l
+    untouched l n later keeps same = record {
+      m = keeps.m;
+      batches = keeps.batches;
+      keeps = still_recovers folders n later same laws.beside keeps.m keeps.batches keeps.keeps;
+      allowed = keeps.allowed;
+      is = subst (MayFind l) (sym (contents_stay folders n later same)) keeps.is;
+      openable = λ mode tolerant. still_openable folders n later same mode (keeps.openable mode tolerant);
+    }
 
     -- files as they are
-    standing : (m : Contents) (batches : List Batch) (l : Ledger) (files : F) → RecoversContents folders m batches (g.directory files) → ((found : Contents) → IsAllowedFrom 0 m batches found → MayFind l found) → AreDetectable g folders files → KeepsDown files l
-    standing m batches l files keeps allowed clean =
-        let are = laws.as_they_are folders m batches (g.directory files) keeps clean in
+    standing : (m : Contents) (batches : List Batch) (l : Ledger) (n : Directory) → RecoversContents folders m batches n → ((found : Contents) → IsAllowedFrom 0 m batches found → MayFind l found) → AreDetectable folders n → KeepsDown n l
+    standing m batches l n keeps allowed clean =
+        let are = laws.as_they_are folders m batches n keeps clean in
         record {
           m = m;
           batches = batches;
           keeps = keeps;
           allowed = allowed;
-          is = allowed (contents_at folders (g.directory files)) are.0;
+          is = allowed (contents_at folders n) are.0;
           openable = are.1;
         }
 
@@ -149,19 +177,28 @@ module _ {F H R W : Type 0} (g : Ghosts F H R W) (folders : Folders) where
         (subst (λ since. LeavesAllowed (folders_of e) (durable_of e) (since ++ chosen_of (accepted_contents l) choice d.writes) n) (keeps.stands alive)
         (subst (λ m. LeavesAllowed (folders_of e) (durable_of e) (unsynced_of e ++ chosen_of m choice d.writes) n) (up_holds e l keeps alive) leaves)))
 
-    crashed_in_call : (e later : Engine F H R W g) (l : Ledger) (d : Effect) (n : Directory) (files : F) → KeepsUp e l → HasEffect d e later → has_failed e ≡ false → IsMoment (moments_of e) (moments_of later) (directory_of later) n → HasCrashed g folders n files → ∥ KeepsDown files (interrupted d l) ∥₁
-    crashed_in_call e later l d n files keeps call alive moment crash =
+    inside_call : (e later : Engine F H R W g) (l : Ledger) (d : Effect) (n : Directory) → KeepsUp e l → HasEffect d e later → has_failed e ≡ false → IsMoment (moments_of e) (moments_of later) (directory_of later) n → ∥ KeepsInside n (interrupted d l) ∥₁
+    inside_call e later l d n keeps call alive moment =
         ∥∥₁_map (at_moment (LeavesChoice (folders_of e) (durable_of e) (unsynced_of e) (contents_of e) d.writes) (moments_of e) (moments_of later) (directory_of later) n (call.any_moment alive) moment)
-        (λ (choice, leaves). crashed (durable_contents l) (l.unsynced ++ chosen_of (accepted_contents l) choice d.writes) (interrupted d l) n files (choice_here e l d n keeps alive choice leaves) (may_find_left (interrupted d l) choice) crash)
+        (λ (choice, leaves). record {
+          m = durable_contents l;
+          batches = l.unsynced ++ chosen_of (accepted_contents l) choice d.writes;
+          leaves = choice_here e l d n keeps alive choice leaves;
+          allowed = may_find_left (interrupted d l) choice;
+        })
 
-    crashed_in_close : (e : Engine F H R W g) (l : Ledger) (after : F) (n : Directory) (files : F) → KeepsUp e l → Ends e after → IsMoment (moments_of e) (g.moments after) (g.directory after) n → HasCrashed g folders n files → KeepsDown files l
-    crashed_in_close e l after n files keeps ends moment crash =
+    inside_close : (e : Engine F H R W g) (l : Ledger) (after : F) (n : Directory) → KeepsUp e l → Ends e after → IsMoment (moments_of e) (g.moments after) (g.directory after) n → KeepsInside n l
+    inside_close e l after n keeps ends moment =
         let leaves = at_moment (LeavesAllowed (folders_of e) (durable_of e) (unsynced_of e)) (moments_of e) (g.moments after) (g.directory after) n ends.any_moment moment in
-        crashed (durable_contents l) (l.unsynced ++ chosen_of (accepted_contents l) keeps.choice l.in_flight) l n files
-        (subst (λ f. LeavesAllowed f (durable_contents l) (l.unsynced ++ chosen_of (accepted_contents l) keeps.choice l.in_flight) n) keeps.folders_are
-        (subst (λ m. LeavesAllowed (folders_of e) m (l.unsynced ++ chosen_of (accepted_contents l) keeps.choice l.in_flight) n) keeps.durable_is
-        (subst (λ since. LeavesAllowed (folders_of e) (durable_of e) since n) keeps.unsynced_is leaves)))
-        (may_find_left l keeps.choice) crash
+        record {
+          m = durable_contents l;
+          batches = l.unsynced ++ chosen_of (accepted_contents l) keeps.choice l.in_flight;
+          leaves =
+              subst (λ f. LeavesAllowed f (durable_contents l) (l.unsynced ++ chosen_of (accepted_contents l) keeps.choice l.in_flight) n) keeps.folders_are
+              (subst (λ m. LeavesAllowed (folders_of e) m (l.unsynced ++ chosen_of (accepted_contents l) keeps.choice l.in_flight) n) keeps.durable_is
+              (subst (λ since. LeavesAllowed (folders_of e) (durable_of e) since n) keeps.unsynced_is leaves));
+          allowed = may_find_left l keeps.choice;
+        }
 
     -- HasEffect.
 
@@ -259,8 +296,8 @@ module _ {F H R W : Type 0} (g : Ghosts F H R W) (folders : Folders) where
     -- Closes.
 
     -- files that stand for all
-    closed_with : (l : Ledger) (m : Contents) (files : F) → m ≡ accepted_contents l → contents_at folders (g.directory files) ≡ m → RecoversContents folders m [] (g.directory files) → ((mode : RecoveryMode) → (mode ≡ AbsoluteConsistency → ⊥) → AreOpenableIn mode folders (g.directory files)) → KeepsDown files l
-    closed_with l m files same is keeps openable = record {
+    closed_with : (l : Ledger) (m : Contents) (n : Directory) → m ≡ accepted_contents l → contents_at folders n ≡ m → RecoversContents folders m [] n → ((mode : RecoveryMode) → (mode ≡ AbsoluteConsistency → ⊥) → AreOpenableIn mode folders n) → KeepsDown n l
+    closed_with l m n same is keeps openable = record {
       m = m;
       batches = [];
       keeps = keeps;
@@ -269,10 +306,10 @@ module _ {F H R W : Type 0} (g : Ghosts F H R W) (folders : Folders) where
       openable = openable;
     }
 
-    closed : (e : Engine F H R W g) (l : Ledger) (files : F) → KeepsUp e l → Closes e files → KeepsDown files (all_durable l)
+    closed : (e : Engine F H R W g) (l : Ledger) (files : F) → KeepsUp e l → Closes e files → KeepsDown (g.directory files) (all_durable l)
     closed e l files keeps closes =
         let same = up_holds e l keeps closes.stood ∙ sym (all_durable_accepted l) in
-        closed_with (all_durable l) (contents_of e) files same
+        closed_with (all_durable l) (contents_of e) (g.directory files) same
         (subst (λ f. contents_at f (g.directory files) ≡ contents_of e) keeps.folders_are closes.contents)
         (subst (λ f. RecoversContents f (contents_of e) [] (g.directory files)) keeps.folders_are closes.keeps)
         (λ mode tolerant. subst (λ f. AreOpenableIn mode f (g.directory files)) keeps.folders_are (closes.openable mode))
@@ -286,34 +323,28 @@ module _ {F H R W : Type 0} (g : Ghosts F H R W) (folders : Folders) where
       unsynced_is = reopens.synced.1;
     }
 
-    given_up : (e : Engine F H R W g) (l : Ledger) (files : F) → KeepsUp e l → GivesUp e files → AreDetectable g folders files → KeepsDown files l
+    given_up : (e : Engine F H R W g) (l : Ledger) (files : F) → KeepsUp e l → GivesUp e files → AreDetectable folders (g.directory files) → KeepsDown (g.directory files) l
     given_up e l files keeps gives clean = elim gives.keeps [
-      | inl part ↦ standing (durable_contents l) (l.unsynced ++ chosen_of (accepted_contents l) keeps.choice l.in_flight) l files
+      | inl part ↦ standing (durable_contents l) (l.unsynced ++ chosen_of (accepted_contents l) keeps.choice l.in_flight) l (g.directory files)
           (subst (λ f. RecoversContents f (durable_contents l) (l.unsynced ++ chosen_of (accepted_contents l) keeps.choice l.in_flight) (g.directory files)) keeps.folders_are
           (subst (λ m. RecoversContents (folders_of e) m (l.unsynced ++ chosen_of (accepted_contents l) keeps.choice l.in_flight) (g.directory files)) keeps.durable_is
           (subst (λ since. RecoversContents (folders_of e) (durable_of e) since (g.directory files)) keeps.unsynced_is part)))
           (may_find_left l keeps.choice) clean
-      | inr all ↦ standing (contents_of e) [] l files
+      | inr all ↦ standing (contents_of e) [] l (g.directory files)
           (subst (λ f. RecoversContents f (contents_of e) [] (g.directory files)) keeps.folders_are all.1)
           (λ found only. subst (MayFind l) (sym (alone (contents_of e) found only ∙ up_holds e l keeps all.0)) (may_find_accepted l)) clean
     ]
 
-    killed : (e : Engine F H R W g) (l : Ledger) (files : F) → KeepsUp e l → g.directory files ≡ directory_of e → AreDetectable g folders files → KeepsDown files l
-    killed e l files keeps same clean =
-        standing (durable_contents l) (l.unsynced ++ chosen_of (accepted_contents l) keeps.choice l.in_flight) l files
-        (subst (RecoversContents folders (durable_contents l) (l.unsynced ++ chosen_of (accepted_contents l) keeps.choice l.in_flight)) (sym same) (up_keeps e l keeps))
-        (may_find_left l keeps.choice) clean
-
     -- Openings.
 
-    opened : (files : F) (l later : Ledger) (e : Engine F H R W g) → HasOpened g folders files (Ok e) → MayRecover l later (contents_of e) → ∥ KeepsUp e later ∥₁
-    opened files l later e opens left = ∥∥₁_map left (λ (choice, count, is, found).
+    opened : (config : Config) (files : F) (later l : Ledger) (e : Engine F H R W g) → HasOpened g folders config files (Ok e) → MayRecover l later (contents_of e) → ∥ KeepsUp e later ∥₁
+    opened config files later l e opens left = ∥∥₁_map left (λ (choice, count, is, found).
         let new = opens.opens.opened.ok in
         let later_is : later ≡ after_crash l choice count = is in
         let none : later.unsynced ≡ [] = ap (λ (x : Ledger). x.unsynced) is in
         let whole : accepted_contents later ≡ durable_contents later = ap (after_batches (durable_contents later)) none in
         record {
-          folders_are = new.folders_are ∙ opens.tolerant.same;
+          folders_are = new.folders_are ∙ opens.same;
           durable_is = new.synced.0 ∙ found ∙ whole;
           stands = λ _. new.synced.1 ∙ sym none;
           choice = [];
@@ -321,8 +352,8 @@ module _ {F H R W : Type 0} (g : Ghosts F H R W) (folders : Folders) where
         })
 
     -- what is kept is kept at each moment of an opening
-    still : (m : Contents) (batches : List Batch) (files : F) (answer : Result (Engine F H R W g) (Refused F)) → HasOpened g folders files answer → RecoversContents folders m batches (g.directory files) → HoldsThroughout (g.moments files) (g.moments (opened_files answer)) (g.directory (opened_files answer)) (RecoversContents folders m batches)
-    still m batches files answer opens keeps =
+    still : (m : Contents) (batches : List Batch) (config : Config) (files : F) (answer : Result (Engine F H R W g) (Refused F)) → HasOpened g folders config files answer → RecoversContents folders m batches (g.directory files) → HoldsThroughout (g.moments files) (g.moments (opened_files answer)) (g.directory (opened_files answer)) (RecoversContents folders m batches)
+    still m batches config files answer opens keeps =
         let each = opens.opens.opened.any_moment.throughout in record {
           added = each.added;
           is = each.is;
@@ -330,85 +361,93 @@ module _ {F H R W : Type 0} (g : Ghosts F H R W) (folders : Folders) where
           here = once (g.directory (opened_files answer)) each.here;
         }
       where
-        once : (x : Directory) → StillRecovers (folders_in opens.config) (g.directory files) x → RecoversContents folders m batches x
-        once x kept = subst (λ (f : Folders). StillRecovers f (g.directory files) x) opens.tolerant.same kept m batches keeps
+        once : (x : Directory) → StillRecovers (folders_in config) (g.directory files) x → RecoversContents folders m batches x
+        once x kept = subst (λ (f : Folders). StillRecovers f (g.directory files) x) opens.same kept m batches keeps
 
-        weaker : (l : List Directory) → AllByRecursion (StillRecovers (folders_in opens.config) (g.directory files)) l → AllByRecursion (RecoversContents folders m batches) l
+        weaker : (l : List Directory) → AllByRecursion (StillRecovers (folders_in config) (g.directory files)) l → AllByRecursion (RecoversContents folders m batches) l
         weaker [] all = tt
         weaker (x ∷ l) all = (once x all.0, weaker l all.1)
 
-    refuses : (files : F) (l : Ledger) (r : Refused F) → KeepsDown files l → HasOpened g folders files (Err r) → AreDetectable g folders r.file_system → KeepsDown r.file_system l
-    refuses files l r keeps opens clean =
-        standing keeps.m keeps.batches l r.file_system (still keeps.m keeps.batches files (Err r) opens keeps.keeps).here keeps.allowed clean
+    opening_failed : (config : Config) (files : F) (l : Ledger) (r : Refused F) → KeepsDown (g.directory files) l → HasOpened g folders config files (Err r) → AreDetectable folders (g.directory r.file_system) → KeepsDown (g.directory r.file_system) l
+    opening_failed config files l r keeps opens clean =
+        standing keeps.m keeps.batches l (g.directory r.file_system) (still keeps.m keeps.batches config files (Err r) opens keeps.keeps).here keeps.allowed clean
 
-    crashed_in_opening : (files : F) (l : Ledger) (answer : Result (Engine F H R W g) (Refused F)) (n : Directory) (later : F) → KeepsDown files l → HasOpened g folders files answer → IsMoment (g.moments files) (g.moments (opened_files answer)) (g.directory (opened_files answer)) n → HasCrashed g folders n later → KeepsDown later l
-    crashed_in_opening files l answer n later keeps opens moment crash =
-        crashed keeps.m keeps.batches l n later (laws.left folders keeps.m keeps.batches n
-        (at_moment (RecoversContents folders keeps.m keeps.batches) (g.moments files) (g.moments (opened_files answer)) (g.directory (opened_files answer)) n (still keeps.m keeps.batches files answer opens keeps.keeps) moment)) keeps.allowed crash
+    inside_opening : (config : Config) (files : F) (l : Ledger) (answer : Result (Engine F H R W g) (Refused F)) (n : Directory) → KeepsDown (g.directory files) l → HasOpened g folders config files answer → IsMomentOfOpening g files answer n → KeepsInside n l
+    inside_opening config files l answer n keeps opens moment = record {
+      m = keeps.m;
+      batches = keeps.batches;
+      leaves = laws.left folders keeps.m keeps.batches n
+          (at_moment (RecoversContents folders keeps.m keeps.batches) (g.moments files) (g.moments (opened_files answer)) (g.directory (opened_files answer)) n (still keeps.m keeps.batches config files answer opens keeps.keeps) moment);
+      allowed = keeps.allowed;
+    }
 
-    killed_in_opening : (files : F) (l : Ledger) (answer : Result (Engine F H R W g) (Refused F)) (later : F) → KeepsDown files l → HasOpened g folders files answer → IsMoment (g.moments files) (g.moments (opened_files answer)) (g.directory (opened_files answer)) (g.directory later) → AreDetectable g folders later → KeepsDown later l
-    killed_in_opening files l answer later keeps opens moment clean =
-        standing keeps.m keeps.batches l later
-        (at_moment (RecoversContents folders keeps.m keeps.batches) (g.moments files) (g.moments (opened_files answer)) (g.directory (opened_files answer)) (g.directory later) (still keeps.m keeps.batches files answer opens keeps.keeps) moment) keeps.allowed clean
-
-    crashed_now : (w : Node g folders) (l : Ledger) (files : F) → Keeps w l → HasCrashed g folders (files_of g folders w) files → ∥ KeepsDown files l ∥₁
-    crashed_now (Running e) l files keeps crash = ∥∥₁_map keeps (λ k. crashed (durable_contents l) (l.unsynced ++ chosen_of (accepted_contents l) k.choice l.in_flight) l (directory_of e) files
-        (laws.left folders (durable_contents l) (l.unsynced ++ chosen_of (accepted_contents l) k.choice l.in_flight) (directory_of e) (up_keeps e l k)) (may_find_left l k.choice) crash)
-    crashed_now (Down before) l files keeps crash = ∥∥₁_map keeps (λ k. crashed k.m k.batches l (g.directory before) files (laws.left folders k.m k.batches (g.directory before) k.keeps) k.allowed crash)
+    -- what a crash may leave of a node
+    leaving : (node : Node g) (l : Ledger) → Keeps node l → ∥ KeepsInside (files_of g node) l ∥₁
+    leaving (Running e) l keeps = ∥∥₁_map keeps (λ k. record {
+      m = durable_contents l;
+      batches = l.unsynced ++ chosen_of (accepted_contents l) k.choice l.in_flight;
+      leaves = laws.left folders (durable_contents l) (l.unsynced ++ chosen_of (accepted_contents l) k.choice l.in_flight) (directory_of e) (up_keeps e l k);
+      allowed = may_find_left l k.choice;
+    })
+    leaving (Inside n) l keeps = keeps
+    leaving (Down n) l keeps = ∥∥₁_map keeps (λ k. record { m = k.m; batches = k.batches; leaves = laws.left folders k.m k.batches n k.keeps; allowed = k.allowed })
 
     -- All.
 
-    keeps_all : (numbered : Bool) (w : Node g folders) (l : Ledger) → Happens g folders numbered w l → Keeps w l
-    keeps_all numbered _ _ (Begins files none clear) =
-        let empty = laws.none folders (g.directory files) none clear in
-        ∣ standing no_contents [] (starts_with no_contents) files empty.1 (λ found only. subst (MayFind (starts_with no_contents)) (sym (alone no_contents found only)) (may_find_accepted (starts_with no_contents))) (no_log_detectable folders (g.directory files) none) ∣₁
-    keeps_all numbered _ _ (BeginsWith e same alive acts) = ∣ (record { folders_are = same; durable_is = refl; stands = λ _. refl; choice = []; unsynced_is = sym (append-nil (unsynced_of e)) }) ∣₁
-    keeps_all numbered _ _ (Opened files l later e before opens left) = opened files l later e opens left
-    keeps_all numbered _ _ (OpeningFailed files l r before opens clean) = ∥∥₁_map (keeps_all numbered (Down files) l before) (λ k. refuses files l r k opens clean)
-    keeps_all numbered _ _ (Called e later l d before call stands) = ∥∥₁_map (keeps_all numbered (Running e) l before) (λ k. called e later l d k call stands)
-    keeps_all numbered _ _ (Failed e later l d before call alive fails) = ∥∥₁_map (keeps_all numbered (Running e) l before) (λ k. failed e later l d k call alive fails)
-    keeps_all numbered _ _ (Rested e later l d before call gone) = ∥∥₁_map (keeps_all numbered (Running e) l before) (λ k. rested e later l d k call gone)
-    keeps_all numbered _ _ (Closed e l files before closes) = ∥∥₁_map (keeps_all numbered (Running e) l before) (λ k. closed e l files k closes)
-    keeps_all numbered _ _ (Reopened e later l before reopens) = ∥∥₁_map (keeps_all numbered (Running e) l before) (λ k. reopened e later l k reopens)
-    keeps_all numbered _ _ (GivenUp e l files before gives clean) = ∥∥₁_map (keeps_all numbered (Running e) l before) (λ k. given_up e l files k gives clean)
-    keeps_all numbered _ _ (Killed e l files before same clean) = ∥∥₁_map (keeps_all numbered (Running e) l before) (λ k. killed e l files k same clean)
-    keeps_all numbered _ _ (Crashed w l files before crash) = crashed_now w l files (keeps_all numbered w l before) crash
-    keeps_all numbered _ _ (CrashedInCall e later l d n files before call alive moment crash) = ∥∥₁_elim (keeps_all numbered (Running e) l before) ∥∥₁_prop (λ k. crashed_in_call e later l d n files k call alive moment crash)
-    keeps_all numbered _ _ (CrashedInClose e l after n files before ends moment crash) = ∥∥₁_map (keeps_all numbered (Running e) l before) (λ k. crashed_in_close e l after n files k ends moment crash)
-    keeps_all numbered _ _ (CrashedInOpening files l answer n later before opens moment crash) = ∥∥₁_map (keeps_all numbered (Down files) l before) (λ k. crashed_in_opening files l answer n later k opens moment crash)
-    keeps_all numbered _ _ (KilledInOpening files l answer later before opens moment clean) = ∥∥₁_map (keeps_all numbered (Down files) l before) (λ k. killed_in_opening files l answer later k opens moment clean)
+    keeps_all : (first : Ledger) (node : Node g) (l : Ledger) → Happens g folders first node l → Keeps node l
+    keeps_all first _ _ (Begins n none clear starts) =
+        let empty = laws.none folders n none clear in
+        ∣ subst (KeepsDown n) (sym starts) (standing no_contents [] (starts_with no_contents) n empty.1 (λ found only. subst (MayFind (starts_with no_contents)) (sym (alone no_contents found only)) (may_find_accepted (starts_with no_contents))) (no_log_detectable folders n none)) ∣₁
+    keeps_all first _ _ (BeginsWith e same alive starts) = ∣ subst (KeepsUp e) (sym starts) (record { folders_are = same; durable_is = refl; stands = λ _. refl; choice = []; unsynced_is = sym (append-nil (unsynced_of e)) }) ∣₁
+    keeps_all first _ _ (Opened config files l later e before opens left) = opened config files later l e opens left
+    keeps_all first _ _ (OpeningFailed config files l r before opens clean) = ∥∥₁_map (keeps_all first (Down (g.directory files)) l before) (λ k. opening_failed config files l r k opens clean)
+    keeps_all first _ _ (Called e later l d before call stands) = ∥∥₁_map (keeps_all first (Running e) l before) (λ k. called e later l d k call stands)
+    keeps_all first _ _ (Failed e later l d before call alive fails) = ∥∥₁_map (keeps_all first (Running e) l before) (λ k. failed e later l d k call alive fails)
+    keeps_all first _ _ (Rested e later l d before call gone) = ∥∥₁_map (keeps_all first (Running e) l before) (λ k. rested e later l d k call gone)
+    keeps_all first _ _ (Closed e l files before closes) = ∥∥₁_map (keeps_all first (Running e) l before) (λ k. closed e l files k closes)
+    keeps_all first _ _ (Reopened e later l before reopens) = ∥∥₁_map (keeps_all first (Running e) l before) (λ k. reopened e later l k reopens)
+    keeps_all first _ _ (GivenUp e l files before gives clean) = ∥∥₁_map (keeps_all first (Running e) l before) (λ k. given_up e l files k gives clean)
+    keeps_all first _ _ (Restarted n later l before anew) = ∥∥₁_map (keeps_all first (Down n) l before) (λ k. restarted l n later k anew)
+    keeps_all first _ _ (Untouched n later l before same) = ∥∥₁_map (keeps_all first (Down n) l before) (λ k. untouched l n later k same)
+    keeps_all first _ _ (InsideCall e later l d n before call alive moment) = ∥∥₁_elim (keeps_all first (Running e) l before) ∥∥₁_prop (λ k. inside_call e later l d n k call alive moment)
+    keeps_all first _ _ (InsideClose e l after n before ends moment) = ∥∥₁_map (keeps_all first (Running e) l before) (λ k. inside_close e l after n k ends moment)
+    keeps_all first _ _ (InsideOpening config files l answer n before opens moment) = ∥∥₁_map (keeps_all first (Down (g.directory files)) l before) (λ k. inside_opening config files l answer n k opens moment)
+    keeps_all first _ _ (Crashed node l after before crash) = ∥∥₁_map (leaving node l (keeps_all first node l before)) (λ k. crashed l (files_of g node) after k crash)
 
     -- What openings find.
 
-    find : (files : F) (l : Ledger) (k : KeepsDown files l) (answer : Result (Engine F H R W g) (Refused F)) → HasOpened g folders files answer → FindsOnly g folders l files answer
-    find files l k (Ok e) opens =
+    find : (l : Ledger) (config : Config) (files : F) → KeepsDown (g.directory files) l → (answer : Result (Engine F H R W g) (Refused F)) → HasOpened g folders config files answer → FindsOnly g folders l config files answer
+    find l config files k (Ok e) opens =
         let o = opens.opens.opened in
-        let same : contents_of e ≡ contents_at folders (g.directory files) = o.contents ∙ ap (λ (f : Folders). contents_at f (g.directory files)) opens.tolerant.same in
-        record { ok = (o.ok.folders_are ∙ opens.tolerant.same, o.ok.stands, o.ok.synced, subst (MayFind l) (sym same) k.is); err = tt }
-    find files l k (Err r) opens = record { ok = tt; err = by_cause opens.opens.refused }
+        let same : contents_of e ≡ contents_at folders (g.directory files) = o.contents ∙ ap (λ (f : Folders). contents_at f (g.directory files)) opens.same in
+        record { ok = (o.ok.folders_are ∙ opens.same, o.ok.stands, o.ok.synced, subst (MayFind l) (sym same) k.is); err = λ tolerant. tt }
+    find l config files k (Err r) opens = record { ok = tt; err = λ tolerant. by_cause tolerant opens.opens.refused }
       where
-        by_cause : IsContradiction opens.config r.fault ⊎ IsOpeningRefusal opens.config.recovery_mode (folders_in opens.config) (g.directory files) (g.refusals_of files) (g.refusals_of r.file_system) r.fault → FailsAt (λ _. Unit {0}) (g.refusals_of files) (g.refusals_of r.file_system) r.fault
-        by_cause (inl clash) = absurd (no_contradiction opens.config r.fault opens.tolerant.fit clash)
-        by_cause (inr refused) = refused_outside opens.config.recovery_mode folders (g.directory files) (g.refusals_of files) (g.refusals_of r.file_system) r.fault
-            (subst (λ (f : Folders). IsOpeningRefusal opens.config.recovery_mode f (g.directory files) (g.refusals_of files) (g.refusals_of r.file_system) r.fault) opens.tolerant.same refused)
-            (k.openable opens.config.recovery_mode opens.tolerant.mode) (laws.clear folders k.m k.batches (g.directory files) k.keeps) (laws.single folders k.m k.batches (g.directory files) k.keeps)
+        by_cause : IsTolerant config → IsContradiction config r.fault ⊎ IsOpeningRefusal config.recovery_mode (folders_in config) (g.directory files) (g.refusals_of files) (g.refusals_of r.file_system) r.fault → FailsAt (λ _. Unit {0}) (g.refusals_of files) (g.refusals_of r.file_system) r.fault
+        by_cause tolerant (inl clash) = absurd (no_contradiction config r.fault tolerant.fit clash)
+        by_cause tolerant (inr refused) = refused_outside config.recovery_mode folders (g.directory files) (g.refusals_of files) (g.refusals_of r.file_system) r.fault
+            (subst (λ (f : Folders). IsOpeningRefusal config.recovery_mode f (g.directory files) (g.refusals_of files) (g.refusals_of r.file_system) r.fault) opens.same refused)
+            (k.openable config.recovery_mode tolerant.mode) (laws.clear folders k.m k.batches (g.directory files) k.keeps) (laws.single folders k.m k.batches (g.directory files) k.keeps)
 
-    find_prop : (files : F) (l : Ledger) (answer : Result (Engine F H R W g) (Refused F)) → IsProp (FindsOnly g folders l files answer)
-    find_prop files l (Ok e) = hlevel props
-    find_prop files l (Err r) = hlevel (props, fails_prop (g.refusals_of files) (g.refusals_of r.file_system) r.fault)
+    find_prop : (l : Ledger) (config : Config) (files : F) (answer : Result (Engine F H R W g) (Refused F)) → IsProp (FindsOnly g folders l config files answer)
+    find_prop l config files (Ok e) = hlevel props
+    find_prop l config files (Err r) = hlevel (props, fails_prop (g.refusals_of files) (g.refusals_of r.file_system) r.fault)
 
-    pub is_safe : (numbered : Bool) (w : Node g folders) (l : Ledger) → Happens g folders numbered w l → Holds g folders w l
-    is_safe numbered (Running e) l happened = λ alive. ∥∥₁_elim (keeps_all numbered (Running e) l happened) (hlevel props) (λ k. up_holds e l k alive)
-    is_safe numbered (Down files) l happened = λ answer opens. ∥∥₁_elim (keeps_all numbered (Down files) l happened) (find_prop files l answer) (λ k. find files l k answer opens)
+    pub is_safe : (first : Ledger) (node : Node g) (l : Ledger) → Happens g folders first node l → Holds g folders node l
+    is_safe first (Running e) l happened = λ alive. ∥∥₁_elim (keeps_all first (Running e) l happened) (hlevel props) (λ k. up_holds e l k alive)
+    is_safe first (Inside n) l happened = tt
+    is_safe first (Down n) l happened = λ config files answer is opens. ∥∥₁_elim (keeps_all first (Down n) l happened) (find_prop l config files answer) (λ k. find l config files (subst (λ (x : Directory). KeepsDown x l) (sym is) k) answer opens)
+
+    pub continues : (first : Ledger) (config : Config) (files : F) (l : Ledger) (e : Engine F H R W g) → Happens g folders first (Down (g.directory files)) l → HasOpened g folders config files (Ok e) → ∥ ((later : Ledger) × (contents_of e ≡ accepted_contents later) × MayRecover l later (contents_of e) × Happens g folders first (Running e) later) ∥₁
+    continues first config files l e before opens =
+        ∥∥₁_elim (is_safe first (Down (g.directory files)) l before config files (Ok e) refl opens).ok.3 ∥∥₁_prop (λ (later, may). ∥∥₁_map may (λ (written, count, is, found).
+        (later, found, may, Opened config files l later e before opens may)))
 
     -- Beside the law.
 
-    first_read : LeftIsRead → (m : Contents) (batches : List Batch) (l : Ledger) (n after : Directory) → LeavesAllowed folders m batches n → ((found : Contents) → IsAllowedFrom 0 m batches found → MayFind l found) → IsAfterCrash n after → ReadsFirst (MayFind l) folders after
-    first_read read m batches l n after leaves allowed fallen = ∥∥₁_map (leaves fallen.left fallen.leaves).first (λ (rewritten, appended, first, next, may).
-        (rewritten, appended, first.0, next.0, read Rewrite folders n after fallen.left fallen.restarted ∙ first.1, read Append folders n after fallen.left fallen.restarted ∙ next.1, allowed (recovered rewritten appended) may))
+    first_read : LeftIsRead → (l : Ledger) (n after : Directory) → KeepsInside n l → IsAfterCrash n after → ReadsFirst (MayFind l) folders after
+    first_read read l n after keeps fallen = ∥∥₁_map (keeps.leaves fallen.left fallen.leaves).first (λ (rewritten, appended, first, next, may).
+        (rewritten, appended, first.0, next.0, read Rewrite folders n after fallen.left fallen.restarted ∙ first.1, read Append folders n after fallen.left fallen.restarted ∙ next.1, keeps.allowed (recovered rewritten appended) may))
 
-    pub kept_read_first : LeftIsRead → (numbered : Bool) (w : Node g folders) (l : Ledger) → Happens g folders numbered w l → (n : Directory) → IsAfterCrash (files_of g folders w) n → ReadsFirst (MayFind l) folders n
-    kept_read_first read numbered (Running e) l happened n fallen = ∥∥₁_elim (keeps_all numbered (Running e) l happened) ∥∥₁_prop (λ k.
-        first_read read (durable_contents l) (l.unsynced ++ chosen_of (accepted_contents l) k.choice l.in_flight) l (directory_of e) n (laws.left folders (durable_contents l) (l.unsynced ++ chosen_of (accepted_contents l) k.choice l.in_flight) (directory_of e) (up_keeps e l k)) (may_find_left l k.choice) fallen)
-    kept_read_first read numbered (Down files) l happened n fallen = ∥∥₁_elim (keeps_all numbered (Down files) l happened) ∥∥₁_prop (λ k.
-        first_read read k.m k.batches l (g.directory files) n (laws.left folders k.m k.batches (g.directory files) k.keeps) k.allowed fallen)
+    pub kept_read_first : LeftIsRead → (first : Ledger) (node : Node g) (l : Ledger) → Happens g folders first node l → (after : Directory) → IsAfterCrash (files_of g node) after → ReadsFirst (MayFind l) folders after
+    kept_read_first read first node l happened after fallen = ∥∥₁_elim (leaving node l (keeps_all first node l happened)) ∥∥₁_prop (λ k. first_read read l (files_of g node) after k fallen)

@@ -1,6 +1,8 @@
 mod Below
 mod LedgerLemmas
 mod RefusalLemmas
+mod SoundLemmas
+mod UntouchedLemmas
 mod HappensLemmas
 mod NumberLemmas
 mod PlainLemmas

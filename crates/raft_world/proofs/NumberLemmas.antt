@@ -14,9 +14,9 @@ use Rattle.raft_log_engine.specs.Group.{chosen_of}
 use Rattle.raft_log_engine.specs.declared.engine.Engine.{Engine}
 use Rattle.raft_world.specs.Call.{HasEffect, MayFollow}
 use Rattle.raft_world.proofs.Below.{CrashLaws, OnceLaw}
-use Rattle.raft_world.specs.Ledger.{Effect, Ledger, all_durable, interrupted, accepted_contents, after_crash, starts_with}
+use Rattle.raft_world.specs.Ledger.{Effect, Ledger, all_durable, durable_contents, interrupted, accepted_contents, after_crash, starts_with}
 use Rattle.raft_world.specs.Once.{ActsOnce}
-use Rattle.raft_world.specs.Happens.{Happens, Node, Running, Down, Begins, BeginsWith, Opened, OpeningFailed, Called, Failed, Rested, Closed, Reopened, GivenUp, Killed, Crashed, CrashedInCall, CrashedInClose, CrashedInOpening, KilledInOpening, ledger_of}
+use Rattle.raft_world.specs.Happens.{Happens, Node, Running, Down, Begins, BeginsWith, Opened, OpeningFailed, Called, Failed, Rested, Closed, Reopened, GivenUp, Restarted, Untouched, InsideCall, InsideClose, InsideOpening, Crashed, ledger_of}
 use Rattle.raft_world.proofs.LedgerLemmas.{after-append, after_accepting}
 use Rattle.raft_world.proofs.HappensLemmas.{is_safe}
 
@@ -100,9 +100,9 @@ numbered_left l choice count is =
       torn = untorn (after_crash l choice count) refl;
     }
 
-module _ {F H R W : Type 0} (g : Ghosts F H R W) (folders : Folders) (laws : CrashLaws) (kept : (e : Engine F H R W g) → RecoversContents (folders_of e) (durable_of e) (unsynced_of e) (directory_of e)) where
-  holds : (e : Engine F H R W g) (l : Ledger) → Happens g folders true (Running e) l → has_failed e ≡ false → contents_of e ≡ accepted_contents l
-  holds e l happened = is_safe g folders laws kept true (Running e) l happened
+module _ {F H R W : Type 0} (g : Ghosts F H R W) (folders : Folders) (first : Ledger) (laws : CrashLaws) (kept : (e : Engine F H R W g) → RecoversContents (folders_of e) (durable_of e) (unsynced_of e) (directory_of e)) where
+  holds : (e : Engine F H R W g) (l : Ledger) → Happens g folders first (Running e) l → has_failed e ≡ false → contents_of e ≡ accepted_contents l
+  holds e l happened = is_safe g folders laws kept first (Running e) l happened
 
   stood : (e later : Engine F H R W g) (d : Effect) → HasEffect d e later → has_failed later ≡ false → has_failed e ≡ false
   stood e later d call stands = elim (cases_Bool (has_failed e)) [
@@ -110,29 +110,31 @@ module _ {F H R W : Type 0} (g : Ghosts F H R W) (folders : Folders) (laws : Cra
     | inr alive ↦ alive
   ]
 
-  torn_in : (e later : Engine F H R W g) (l : Ledger) (d : Effect) → Happens g folders true (Running e) l → HasEffect d e later → has_failed e ≡ false → IsNumbered l → IsNumbered (interrupted d l)
+  torn_in : (e later : Engine F H R W g) (l : Ledger) (d : Effect) → Happens g folders first (Running e) l → HasEffect d e later → has_failed e ≡ false → IsNumbered l → IsNumbered (interrupted d l)
   torn_in e later l d happened call alive is = record {
     all = is.all;
     torn = λ choice. subst (λ m. MayFollow m (chosen_of m choice d.writes)) (holds e l happened alive) (call.flights alive choice);
   }
 
-  numbered : (w : Node g folders) (l : Ledger) → Happens g folders true w l → ∥ IsNumbered l ∥₁
-  numbered _ _ (Begins files none clear) = ∣ (record { all = none_follow no_contents; torn = untorn (starts_with no_contents) refl }) ∣₁
-  numbered _ _ (BeginsWith e same alive acts) = ∣ (record { all = acts refl; torn = untorn (ledger_of e) refl }) ∣₁
-  numbered _ _ (Opened files l later e before opens left) = ∥∥₁_elim (numbered (Down files) l before) ∥∥₁_prop (λ is. ∥∥₁_map left (λ (choice, count, later_is, found). subst IsNumbered (sym later_is) (numbered_left l choice count is)))
-  numbered _ _ (OpeningFailed files l r before opens clean) = numbered (Down files) l before
-  numbered _ _ (Called e later l d before call stands) = ∥∥₁_map (numbered (Running e) l before) (λ is. numbered_after l d.accepts d.syncs is (subst (λ m. MayFollow m d.accepts) (holds e l before (stood e later d call stands)) (call.numbers (stood e later d call stands))))
-  numbered _ _ (Failed e later l d before call alive fails) = ∥∥₁_map (numbered (Running e) l before) (torn_in e later l d before call alive)
-  numbered _ _ (Rested e later l d before call gone) = numbered (Running e) l before
-  numbered _ _ (Closed e l files before closes) = ∥∥₁_map (numbered (Running e) l before) (numbered_kept l)
-  numbered _ _ (Reopened e later l before reopens) = ∥∥₁_map (numbered (Running e) l before) (numbered_kept l)
-  numbered _ _ (GivenUp e l files before gives clean) = numbered (Running e) l before
-  numbered _ _ (Killed e l files before same clean) = numbered (Running e) l before
-  numbered _ _ (Crashed w l files before crash) = numbered w l before
-  numbered _ _ (CrashedInCall e later l d n files before call alive moment crash) = ∥∥₁_map (numbered (Running e) l before) (torn_in e later l d before call alive)
-  numbered _ _ (CrashedInClose e l after n files before ends moment crash) = numbered (Running e) l before
-  numbered _ _ (CrashedInOpening files l answer n later before opens moment crash) = numbered (Down files) l before
-  numbered _ _ (KilledInOpening files l answer later before opens moment clean) = numbered (Down files) l before
+  numbered : MayFollow (durable_contents first) first.unsynced → (node : Node g) (l : Ledger) → Happens g folders first node l → ∥ IsNumbered l ∥₁
+  numbered acts _ _ (Begins n none clear starts) = ∣ subst IsNumbered (sym starts) (record { all = none_follow no_contents; torn = untorn (starts_with no_contents) refl }) ∣₁
+  numbered acts _ _ (BeginsWith e same alive starts) =
+      let all : MayFollow (durable_of e) (unsynced_of e) = subst (λ (l : Ledger). MayFollow (durable_contents l) l.unsynced) starts acts in
+      ∣ subst IsNumbered (sym starts) (record { all = all; torn = untorn (ledger_of e) refl }) ∣₁
+  numbered acts _ _ (Opened config files l later e before opens left) = ∥∥₁_elim (numbered acts (Down (g.directory files)) l before) ∥∥₁_prop (λ is. ∥∥₁_map left (λ (choice, count, later_is, found). subst IsNumbered (sym later_is) (numbered_left l choice count is)))
+  numbered acts _ _ (OpeningFailed config files l r before opens clean) = numbered acts (Down (g.directory files)) l before
+  numbered acts _ _ (Called e later l d before call stands) = ∥∥₁_map (numbered acts (Running e) l before) (λ is. numbered_after l d.accepts d.syncs is (subst (λ m. MayFollow m d.accepts) (holds e l before (stood e later d call stands)) (call.numbers (stood e later d call stands))))
+  numbered acts _ _ (Failed e later l d before call alive fails) = ∥∥₁_map (numbered acts (Running e) l before) (torn_in e later l d before call alive)
+  numbered acts _ _ (Rested e later l d before call gone) = numbered acts (Running e) l before
+  numbered acts _ _ (Closed e l files before closes) = ∥∥₁_map (numbered acts (Running e) l before) (numbered_kept l)
+  numbered acts _ _ (Reopened e later l before reopens) = ∥∥₁_map (numbered acts (Running e) l before) (numbered_kept l)
+  numbered acts _ _ (GivenUp e l files before gives clean) = numbered acts (Running e) l before
+  numbered acts _ _ (Restarted n later l before anew) = numbered acts (Down n) l before
+  numbered acts _ _ (Untouched n later l before same) = numbered acts (Down n) l before
+  numbered acts _ _ (InsideCall e later l d n before call alive moment) = ∥∥₁_map (numbered acts (Running e) l before) (torn_in e later l d before call alive)
+  numbered acts _ _ (InsideClose e l after n before ends moment) = numbered acts (Running e) l before
+  numbered acts _ _ (InsideOpening config files l answer n before opens moment) = numbered acts (Down (g.directory files)) l before
+  numbered acts _ _ (Crashed node l after before crash) = numbered acts node l before
 
-  pub acts_once : OnceLaw → (w : Node g folders) (l : Ledger) → Happens g folders true w l → ActsOnce l
-  acts_once once w l happened = ∥∥₁_elim (numbered w l happened) ∥∥₁_prop (λ is. ∥∥₁_map is.all (λ (acts, are, may). (acts, are, may, λ group. once l.start group acts may)))
+  pub acts_once : OnceLaw → MayFollow (durable_contents first) first.unsynced → (node : Node g) (l : Ledger) → Happens g folders first node l → ActsOnce l
+  acts_once once acts node l happened = ∥∥₁_elim (numbered acts node l happened) ∥∥₁_prop (λ is. ∥∥₁_map is.all (λ (acts, are, may). (acts, are, may, λ group. once l.start group acts may)))

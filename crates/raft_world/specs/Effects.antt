@@ -126,3 +126,8 @@ module _ {F H R W : Type 0} (g : Ghosts F H R W) where
   GiveUpEnds = (old : Engine F H R W g) (files : F)
       → RecoversContents (folders_of old) (durable_of old) (unsynced_of old) (g.directory files)
       → GivesUp old files
+
+  -- a kill between two calls, which leaves the files as they are
+  abbrev pub KillEnds : Type 0
+  KillEnds = (old : Engine F H R W g) (files : F) → g.directory files ≡ directory_of old
+      → GivesUp old files

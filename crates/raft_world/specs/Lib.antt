@@ -5,3 +5,4 @@ pub mod Effects
 pub mod Once
 pub mod OneCall
 pub mod ReadFirst
+pub mod Completed

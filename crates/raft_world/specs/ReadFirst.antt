@@ -1,15 +1,15 @@
 -- Without the premise: what is read first of the files after a crash with any damage.
-use Rattle.std.specs.Prelude.{◌≡◌, ◌++◌, false, List}
+use Rattle.std.specs.Prelude.{◌≡◌, ◌++◌, List}
 use Rattle.raft_base.specs.declared.pipe_log.LogQueue.TheVariants.{Append, Rewrite}
 use Rattle.raft_records.specs.Contents.{Contents}
 use Rattle.raft_records.specs.Item.{Batch}
-use Rattle.raft_env.specs.Directory.{CrashImage, Directory, IsRestarted, Leaves}
+use Rattle.raft_env.specs.Directory.{Directory}
 use Rattle.raft_env.specs.declared.env.FileSystem.{Ghosts}
 use Rattle.raft_config.specs.Folders.{Folders}
 use Rattle.raft_pipes.specs.Folder.{readable_queue}
 use Rattle.raft_recovery_laws.specs.Recovered.{recovered}
 use Rattle.raft_world.specs.Ledger.{Ledger, MayFind}
-use Rattle.raft_world.specs.Happens.{Happens, Node, files_of}
+use Rattle.raft_world.specs.Happens.{Happens, IsAfterCrash, Node, files_of}
 
 -- the batches that are read first of both queues make contents with P; more batches may follow them
 abbrev pub ReadsFirst : (Contents → Type 0) → Folders → Directory → Type 0
@@ -18,14 +18,9 @@ ReadsFirst P folders n = ∥ ((rewritten appended later more : List Batch)
     × (readable_queue Append folders n ≡ appended ++ more)
     × P (recovered rewritten appended)) ∥₁
 
--- these are the files after a crash at this moment, with any damage
-pub record IsAfterCrash (n after : Directory) : Type 0 where
-  pub left : CrashImage
-  pub leaves : Leaves n left
-  pub restarted : IsRestarted n left after
-
--- what is read first after a crash with any damage is what an opening may find
+-- what is read first after a crash with any damage is what an opening may find: of a node between
+-- two calls, inside a call, a close or an opening, or down
 abbrev pub WhatIsKeptIsReadFirst : {F H R W : Type 0} → Ghosts F H R W → Type 0
-WhatIsKeptIsReadFirst {F} {H} {R} {W} g = (folders : Folders) (node : Node g folders) (l : Ledger)
-    → Happens g folders false node l → (after : Directory)
-    → IsAfterCrash (files_of g folders node) after → ReadsFirst (MayFind l) folders after
+WhatIsKeptIsReadFirst g = (folders : Folders) (first : Ledger) (node : Node g) (l : Ledger)
+    → Happens g folders first node l → (after : Directory)
+    → IsAfterCrash (files_of g node) after → ReadsFirst (MayFind l) folders after

@@ -1,9 +1,13 @@
 //! The laws of a log: what holds after any calls, crashes, closes and openings.
 ghost use Rattle.std.specs.Prelude.{ℕ, Option, Vec};
 ghost use Rattle.std.specs.declared.alloc.Global.{Global};
+ghost use Rattle.raft_env.specs.Consistent.{AreConsistent};
+ghost use Rattle.raft_env.specs.Directory.{Directory, Leaves};
+ghost use Rattle.raft_files.specs.Records.{as_it_is};
 ghost use Rattle.raft_log_engine.specs.Purge.{HasLastId, HasOpenGroup};
-ghost use Rattle.raft_world.specs.Effects.{ArmingHasNoEffect, CloseEnds, CompactionHasEffect, GiveUpEnds, PurgeHasEffect, ReadHasNoEffect, ReopenEnds, SyncHasEffect, WriteGroupHasEffect, WriteHasEffect, WriteOnceHasEffect};
-ghost use Rattle.raft_world.specs.Happens.{TheLogIsSafe};
+ghost use Rattle.raft_world.specs.Completed.{LastFilesAreCompleted};
+ghost use Rattle.raft_world.specs.Effects.{ArmingHasNoEffect, CloseEnds, CompactionHasEffect, GiveUpEnds, KillEnds, PurgeHasEffect, ReadHasNoEffect, ReopenEnds, SyncHasEffect, WriteGroupHasEffect, WriteHasEffect, WriteOnceHasEffect};
+ghost use Rattle.raft_world.specs.Happens.{OpeningsContinue, TheLogIsSafe};
 ghost use Rattle.raft_world.specs.Once.{NumbersActOnce};
 ghost use Rattle.raft_world.specs.OneCall.{CrashInCall};
 ghost use Rattle.raft_world.specs.ReadFirst.{WhatIsKeptIsReadFirst};
@@ -11,15 +15,24 @@ ghost use Rattle.raft_world.specs.ReadFirst.{WhatIsKeptIsReadFirst};
 use raft_env::FileSystem;
 use raft_log_engine::laws::crash_leaves_contents;
 use raft_once::laws::a_number_acts_once;
-use raft_queue_laws::queue::crash_leaves_a_prefix;
+use raft_queue_laws::queue::{crash_leaves_a_prefix, queues_stand_side_by_side};
 
-/// The headline. After anything that may happen to a log, an engine that hasn't failed holds all that
-/// was accepted, and an opening finds what no crash takes, with a first part of the rest; or it fails,
-/// with a cause.
+/// The headline. After anything that may happen to a log, an engine that hasn't failed holds all
+/// that was accepted, and an opening finds what no crash takes, with a first part of the rest; or it
+/// fails, with a cause.
 pub fn the_log_is_safe<F: FileSystem>()
     ensures { TheLogIsSafe F.FileSystem }
 {
     crash_leaves_contents();
+    queues_stand_side_by_side();
+}
+
+/// After an opening the events continue, with a ledger of what it found.
+pub fn openings_continue<F: FileSystem>()
+    ensures { OpeningsContinue F.FileSystem }
+{
+    crash_leaves_contents();
+    queues_stand_side_by_side();
 }
 
 /// Exactly once: of what a log holds no number of a group acted twice, unless the group was cleaned
@@ -28,27 +41,45 @@ pub fn numbers_act_once<F: FileSystem>()
     ensures { NumbersActOnce F.FileSystem }
 {
     crash_leaves_contents();
+    queues_stand_side_by_side();
     a_number_acts_once();
 }
 
 /// The law for one call of an engine of whose past nothing is known: what an opening finds after a
-/// crash inside the call.
+/// crash inside the call, or why it fails.
 pub fn a_crash_in_a_call_leaves_a_prefix<F: FileSystem>()
     ensures { CrashInCall F.FileSystem }
 {
     crash_leaves_contents();
+    queues_stand_side_by_side();
 }
 
-/// After a crash with any damage, also if that isn't detectable, the durable batches are read first.
+/// After a crash with any damage, also if it isn't detectable, the durable batches are read first.
+/// The crash may come between two calls, or inside a call, a close or an opening.
 pub fn what_is_kept_is_read_first<F: FileSystem>()
     ensures { WhatIsKeptIsReadFirst F.FileSystem }
 {
     crash_leaves_contents();
+    queues_stand_side_by_side();
     crash_leaves_a_prefix();
 }
 
+/// Between two calls the last log files of an engine that hasn't failed hold only records that
+/// calls completed, so none that was there before a renaming. This needs that only writes failed on
+/// them, and that the opening found no record of a failed call.
+pub fn last_files_are_completed<F: FileSystem>()
+    ensures { LastFilesAreCompleted F.FileSystem }
+{}
+
+/// A kill is a crash that leaves every byte as it is: a crash may leave consistent files so. All
+/// files in memory and of a folder are consistent.
+pub fn a_kill_is_a_crash()
+    ensures { (n : Directory) → AreConsistent n → Leaves n (as_it_is n) }
+{}
+
 /// Each call has its effect, by its own contract: a clause for each public call that takes
 /// `&mut self` or the engine itself. A call with listeners has the clauses of the one without.
+/// `kill` is no call: the process ends between two calls.
 pub fn calls_have_effects<F: FileSystem>()
     ensures write { WriteHasEffect F.FileSystem }
     ensures write_once { WriteOnceHasEffect F.FileSystem }
@@ -70,4 +101,5 @@ pub fn calls_have_effects<F: FileSystem>()
     ensures close { CloseEnds F.FileSystem }
     ensures reopen { ReopenEnds F.FileSystem }
     ensures give_up { GiveUpEnds F.FileSystem }
+    ensures kill { KillEnds F.FileSystem }
 {}

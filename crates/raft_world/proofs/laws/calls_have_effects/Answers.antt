@@ -1,7 +1,7 @@
 use Rattle.std.specs.Prelude.{ℕ, Option, Vec}
 use Rattle.std.specs.declared.alloc.Global.{Global}
 use Rattle.raft_log_engine.specs.Purge.{HasLastId, HasOpenGroup}
-use Rattle.raft_world.proofs.EffectLemmas.{arming_has_no_effect, close_ends, compaction_has_effect, give_up_ends, purge_has_effect, read_has_no_effect, reopen_ends, sync_has_effect, write_group_has_effect, write_has_effect, write_once_has_effect}
+use Rattle.raft_world.proofs.EffectLemmas.{arming_has_no_effect, close_ends, compaction_has_effect, give_up_ends, kill_ends, purge_has_effect, read_has_no_effect, reopen_ends, sync_has_effect, write_group_has_effect, write_has_effect, write_once_has_effect}
 use Rattle.raft_world.proofs.laws.calls_have_effects.Goals as goal
 
 pub returns-clause-write : goal.returns-clause-write
@@ -63,3 +63,6 @@ returns-clause-reopen g c = reopen_ends g.F.FileSystem
 
 pub returns-clause-give_up : goal.returns-clause-give_up
 returns-clause-give_up g c = give_up_ends g.F.FileSystem
+
+pub returns-clause-kill : goal.returns-clause-kill
+returns-clause-kill g c = kill_ends g.F.FileSystem

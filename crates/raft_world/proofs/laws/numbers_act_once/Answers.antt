@@ -4,7 +4,7 @@ use Rattle.raft_world.proofs.Below.{CrashLaws}
 use Rattle.raft_world.proofs.laws.numbers_act_once.Goals as goal
 
 pub returns : goal.returns
-returns g c = λ folders node l happened.
+returns g c = λ folders first acts node l happened.
     let laws : CrashLaws = record {
       left = c.crash_leaves_contents.ensures.left;
       restarted = c.crash_leaves_contents.ensures.restarted;
@@ -14,5 +14,6 @@ returns g c = λ folders node l happened.
       none = c.crash_leaves_contents.ensures.none;
       clear = c.crash_leaves_contents.ensures.clear;
       single = c.crash_leaves_contents.ensures.single;
+      beside = c.queues_stand_side_by_side.ensures.recovers;
     } in
-    acts_once g.F.FileSystem folders laws (λ e. engine_keeps e) c.a_number_acts_once.ensures.once node l happened
+    acts_once g.F.FileSystem folders first laws (λ e. engine_keeps e) c.a_number_acts_once.ensures.once acts node l happened

@@ -4,7 +4,7 @@ use Rattle.raft_world.proofs.Below.{CrashLaws}
 use Rattle.raft_world.proofs.laws.the_log_is_safe.Goals as goal
 
 pub returns : goal.returns
-returns g c = λ folders numbered node l happened.
+returns g c = λ folders first node l happened.
     let laws : CrashLaws = record {
       left = c.crash_leaves_contents.ensures.left;
       restarted = c.crash_leaves_contents.ensures.restarted;
@@ -14,5 +14,6 @@ returns g c = λ folders numbered node l happened.
       none = c.crash_leaves_contents.ensures.none;
       clear = c.crash_leaves_contents.ensures.clear;
       single = c.crash_leaves_contents.ensures.single;
+      beside = c.queues_stand_side_by_side.ensures.recovers;
     } in
-    is_safe g.F.FileSystem folders laws (λ e. engine_keeps e) numbered node l happened
+    is_safe g.F.FileSystem folders laws (λ e. engine_keeps e) first node l happened
