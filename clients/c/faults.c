@@ -17,6 +17,7 @@ atomic_int faults_left, faults_orders_left, faults_syncs;
 int faults_error = EIO;
 bool faults_kill, faults_of_note;
 
+static _Thread_local bool was_note;
 static pthread_mutex_t lock = PTHREAD_MUTEX_INITIALIZER;
 static pthread_cond_t moved = PTHREAD_COND_INITIALIZER;
 
@@ -71,14 +72,21 @@ static bool is_note(int fd) {
     return ends_as_note(path);
 }
 
+static bool is_folder(int fd) {
+    struct stat is;
+    return !fstat(fd, &is) && S_ISDIR(is.st_mode);
+}
+
 /* A file call by a descriptor, or of a name. */
 static int fails_of(bool of_note) {
     int fails = fails_at(&faults_left);
     if (fails) faults_of_note = of_note;
+    was_note = of_note;
     return fails;
 }
 
-static int fails(int fd) { return fails_of(is_note(fd)); }
+/* A sync of the folder right after a call on the note is the note's. */
+static int fails(int fd) { return fails_of(is_note(fd) || (was_note && is_folder(fd))); }
 
 void faults_hold_syncs(bool holds) { hold(&syncs, holds); }
 void faults_await_sync(void) { await(&syncs); }

@@ -26,7 +26,7 @@ static void work(const char *settings) {
         for (int i = 0; i < KEYS / 2; i++) CHECK(put_key(log, 'k', part * KEYS / 2 + i) == 0);
         CHECK(raftlog_must_rewrite_append_queue(log, NULL) == 0);
         CHECK(raftlog_must_rewrite_rewrite_queue(log, NULL) == 0);
-        for (int i = 0; i < 12; i++) CHECK(put_key(log, 'l', i) == 0);
+        for (int i = 0; i < 24; i++) CHECK(put_key(log, 'l', i) == 0);
         CHECK(raftlog_close(log) == 0);
     }
 }
