@@ -48,7 +48,7 @@ static void finds(const char *folder, uint64_t answered) {
     uint64_t first = 1, last = 0, i;
     int code = raftlog_open(folder, "target-file-size = \"4KB\"", &log, text, sizeof text);
     if (code) printf("%d %s\n", code, text);
-    CHECK(code == 0 && raftlog_missing(log, NULL, 0) == 0);
+    CHECK(code == 0 && raftlog_missing(log, NULL, 0, 0) == 0);
     if (!raftlog_last_index(log, 1, &last))
         CHECK(!raftlog_first_index(log, 1, &first) && (first == 1 || first == 10));
     CHECK(last == answered || last == answered + 1);

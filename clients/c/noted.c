@@ -13,27 +13,29 @@
 #define DELETING SMALL_FILES "enable-log-recycle = false\n"
 #define SPILLED SMALL_FILES "spill-dir = \"spill\"\n"
 
-enum { KEYS = 40, ROOM = 8 };
+enum { MANY = 40, FEW = 12, ROOM = 8 };
 
 static const char *folder;
 
 static void empty(void) { run("rm -rf '%s' && mkdir '%s'", folder, folder); }
 
-/* Rotations, purges of both queues and closes, in two openings. */
-static void work(const char *settings) {
+/* Rotations, purges of both queues and closes, in two openings, each of which writes so many keys. */
+static void work_with(const char *settings, int keys) {
     for (int part = 0; part < 2; part++) {
         raftlog *log = open_with(folder, settings);
-        for (int i = 0; i < KEYS / 2; i++) CHECK(put_key(log, 'k', part * KEYS / 2 + i) == 0);
+        for (int i = 0; i < keys / 2; i++) CHECK(put_key(log, 'k', part * keys / 2 + i) == 0);
         CHECK(raftlog_must_rewrite_append_queue(log, NULL) == 0);
         CHECK(raftlog_must_rewrite_rewrite_queue(log, NULL) == 0);
-        for (int i = 0; i < 24; i++) CHECK(put_key(log, 'l', i) == 0);
+        for (int i = 0; i < keys / 2; i++) CHECK(put_key(log, 'l', i) == 0);
         CHECK(raftlog_close(log) == 0);
     }
 }
 
+static void work(const char *settings) { work_with(settings, MANY); }
+
 static size_t lost_in(const char *settings, raftlog_lost *lost) {
     raftlog *log = open_with(folder, settings);
-    size_t count = raftlog_missing(log, lost, ROOM);
+    size_t count = raftlog_missing(log, lost, ROOM, sizeof *lost);
     CHECK(raftlog_close(log) == 0);
     return count;
 }
@@ -48,7 +50,7 @@ static bool is_killed_at(int call, const char *settings) {
     if (!child) {
         faults_kill = true;
         atomic_store(&faults_left, call);
-        work(settings);
+        work_with(settings, FEW);
         _exit(0);
     }
     CHECK(waitpid(child, &status, 0) == child);
@@ -108,7 +110,7 @@ static void lose(void) {
         CHECK(lost_in(DELETING, lost) == 1 && is_lost(lost, RAFTLOG_FILE_MISSING, from, to));
         CHECK(raftlog_accept_missing(folder, text, sizeof text) == 0);
         CHECK(raftlog_open_whole(folder, DELETING, &log, text, sizeof text) == 0);
-        CHECK(raftlog_missing(log, NULL, 0) == 0);
+        CHECK(raftlog_missing(log, NULL, 0, 0) == 0);
         CHECK(raftlog_accept_missing(folder, text, sizeof text) == RAFTLOG_IN_USE);
         CHECK(raftlog_close(log) == 0 && lost_in(DELETING, NULL) == 0);
     }
@@ -129,7 +131,7 @@ static void stray(void) {
     CHECK(!unlink(other));
     take_away(first);
     raftlog *log = open_with(folder, DELETING);
-    CHECK(raftlog_missing(log, lost, ROOM) == 1 && is_lost(lost, RAFTLOG_FILE_MISSING, first, first));
+    CHECK(raftlog_missing(log, lost, ROOM, sizeof *lost) == 1 && is_lost(lost, RAFTLOG_FILE_MISSING, first, first));
     CHECK(raftlog_must_rewrite_append_queue(log, NULL) == 0 && raftlog_close(log) == 0);
     CHECK(lost_in(DELETING, NULL) == 0);
 }
@@ -152,6 +154,20 @@ static void put_note(const char *bytes, size_t len) {
     unlink(name);
     FILE *file = fopen(name, "w");
     CHECK(file && fwrite(bytes, 1, len, file) == len && !fclose(file));
+}
+
+/* A file may be missing, and there is no note: none is begun until the numbers have no gap. */
+static void is_unknown(void) {
+    uint64_t first, last;
+    char name[TEXT_ROOM];
+    empty();
+    work(DELETING);
+    find(&first, &last);
+    take_away(first + 1);
+    snprintf(name, sizeof name, "%s/SPANS", folder);
+    CHECK(!unlink(name) && lost_in(DELETING, NULL) == 0 && access(name, F_OK));
+    take_away(first);
+    CHECK(lost_in(DELETING, NULL) == 0 && !access(name, F_OK));
 }
 
 /* A broken note, or another program's file: nothing is reported. Another program's file stays. */
@@ -220,6 +236,7 @@ int main(int argc, char **argv) {
     lose();
     stray();
     is_stale();
+    is_unknown();
     is_broken();
     spill();
     count();

@@ -217,9 +217,10 @@ typedef struct {
 } raftlog_lost;
 
 /* Returns how many such facts the opening found, and stores the first of them, at most `room`, in `lost`, which may be
- * NULL if `room` is 0. After a crash or a kill there are none. An opening reports the same files again until a purge
- * makes them unneeded or the loss is accepted. Without a note nothing is reported. */
-size_t raftlog_missing(raftlog *log, raftlog_lost *lost, size_t room);
+ * NULL if `room` is 0. `size` is sizeof(raftlog_lost), as for `raftlog_stats`. After a crash or a kill there are none. An
+ * opening reports the same files again until a purge makes them unneeded or the loss is accepted. Without a note nothing
+ * is reported. */
+size_t raftlog_missing(raftlog *log, raftlog_lost *lost, size_t room, size_t size);
 
 /* As `raftlog_open`, but fails as RAFTLOG_LOST if a file is missing or a stray. It has changed no log file then. */
 int raftlog_open_whole(const char *folder, const char *settings, raftlog **out, char *text, size_t room);

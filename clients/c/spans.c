@@ -35,7 +35,7 @@ struct numbers {
 
 struct parts_spans {
     int file;      /* -1: there is no note */
-    bool is_taken; /* something else has its name, or the second folder isn't known: no note is written */
+    bool is_silent; /* no note is written: something else has its name, or no span is known */
     struct span queues[QUEUES];
     char spill[SLOT - HEAD]; /* the second folder's path from the log's; empty if there is none */
     uint64_t count;
@@ -171,10 +171,18 @@ static struct span span_of(const struct numbers *found) {
     return span;
 }
 
-static struct span at_opening(const struct span *span, const struct numbers *found) {
-    uint64_t end = end_of(span, found);
-    if (is_stale(span, found, end)) return span_of(found);
-    return (struct span){front_of(span, found), end, false};
+/* The span at an opening: the note's, if it is true, else that of all files. If one of these is missing then, no span is
+ * known: a purge may have left the files before it, or someone else may have deleted it. */
+static bool find_span(const struct span *noted, const struct numbers *found, struct span *span) {
+    uint64_t end = end_of(noted, found);
+    *span = (struct span){front_of(noted, found), end, false};
+    if (!is_stale(noted, found, end)) return true;
+    *span = span_of(found);
+    return span->first == found->all[0];
+}
+
+static bool are_same(const struct span *one, const struct span *other) {
+    return one->first == other->first && one->last == other->last && one->is_dropping == other->is_dropping;
 }
 
 /* ---- the file */
@@ -197,7 +205,7 @@ static int write_note(raftlog *log) {
     uint8_t slot[SLOT];
     int place = !spans->synced;
     bool is_new = spans->file < 0;
-    if (spans->is_taken) return 0;
+    if (spans->is_silent) return 0;
     int error = is_new ? make_note(log) : 0;
     if (error) return error;
     fill(spans, spans->count + 1, slot);
@@ -213,7 +221,7 @@ static int write_note(raftlog *log) {
 /* A note that can't be written is removed: without one nothing is reported as missing. */
 static int write_or_remove(raftlog *log) {
     struct parts_spans *spans = log->spans;
-    if (spans->file < 0 || !write_note(log)) return 0;
+    if (spans->file < 0 || (!spans->is_silent && !write_note(log))) return 0;
     close(spans->file);
     spans->file = -1;
     return remove_note(log);
@@ -227,9 +235,9 @@ static int read_note(struct parts_spans *spans, int fd) {
     if (len < 0) return errno;
     for (ssize_t at = 0; at < len; at += SLOT) {
         size_t rest = (size_t)(len - at) < SLOT ? (size_t)(len - at) : SLOT;
-        spans->is_taken |= at == 2 * SLOT || !may_be_note(bytes + at, rest);
+        spans->is_silent |= at == 2 * SLOT || !may_be_note(bytes + at, rest);
     }
-    for (int place = 0; place < 2 && !spans->is_taken; place++)
+    for (int place = 0; place < 2 && !spans->is_silent; place++)
         if (len >= (place + 1) * SLOT) take(spans, place, bytes + place * SLOT);
     return 0;
 }
@@ -238,11 +246,11 @@ static int open_note(raftlog *log) {
     struct parts_spans *spans = log->spans;
     struct stat is;
     if (fstatat(log->root, SPANS, &is, AT_SYMLINK_NOFOLLOW)) return errno == ENOENT ? 0 : errno;
-    if (!S_ISREG(is.st_mode) || is.st_nlink != 1) return spans->is_taken = true, 0;
+    if (!S_ISREG(is.st_mode) || is.st_nlink != 1) return spans->is_silent = true, 0;
     int fd = openat(log->root, SPANS, O_RDWR | O_NOFOLLOW | O_CLOEXEC);
     if (fd < 0) return errno;
     int error = read_note(spans, fd);
-    if (error || spans->is_taken) return close(fd), error;
+    if (error || spans->is_silent) return close(fd), error;
     spans->file = fd;
     return 0;
 }
@@ -297,7 +305,7 @@ int parts_begin_spans(raftlog *log, const char *settings) {
     bool is_known = find_spill(settings ? settings : "", spill, sizeof spill);
     if (*spill) memcpy(spans->spill, spill, sizeof spill);
     if (error || is_known) return error;
-    spans->is_taken = true;
+    spans->is_silent = true;
     if (spans->file >= 0) error = remove_note(log);
     return error;
 }
@@ -318,22 +326,26 @@ int parts_find_span(raftlog *log, const char *path) {
     return 0;
 }
 
-/* If there is no note, if a crash left it old, or if another program made it stale, a new one is written. */
+/* A new note is written if there is none, if a crash left it old, or if another program made it stale; but none if a
+ * file may be missing. */
 int parts_judge_spans(raftlog *log) {
     struct parts_spans *spans = log->spans;
-    bool is_old = false;
+    struct span now[QUEUES];
+    bool is_old = false, is_known = true;
     int error = 0;
-    if (spans->is_taken) return 0;
+    if (spans->is_silent) return 0;
     for (int queue = 0; queue < QUEUES && !error; queue++) {
         struct numbers *found = &spans->found[queue];
         if (found->count) qsort(found->all, found->count, sizeof *found->all, compare);
         if (spans->count) error = report(spans, queue);
-        struct span noted = spans->queues[queue], now = at_opening(&noted, found);
-        is_old |= now.first != noted.first || now.last != noted.last || now.is_dropping != noted.is_dropping;
-        spans->queues[queue] = now;
+        is_known &= find_span(&spans->queues[queue], found, &now[queue]);
+        is_old |= !are_same(&spans->queues[queue], &now[queue]);
     }
-    if (is_old && !error) write_note(log);
-    return error;
+    spans->is_silent = !is_known;
+    if (error || spans->is_silent) return error;
+    memcpy(spans->queues, now, sizeof now);
+    if (is_old) write_note(log);
+    return 0;
 }
 
 void parts_add_span(raftlog *log, const char *path) {
@@ -387,9 +399,10 @@ void parts_end_spans(raftlog *log) {
     free(spans);
 }
 
-size_t raftlog_missing(raftlog *log, raftlog_lost *lost, size_t room) {
+size_t raftlog_missing(raftlog *log, raftlog_lost *lost, size_t room, size_t size) {
     if (!log || !log->spans) return 0;
     const struct parts_spans *spans = log->spans;
-    for (size_t i = 0; lost && i < spans->lost_count && i < room; i++) lost[i] = spans->lost[i];
+    for (size_t i = 0; lost && i < spans->lost_count && i < room; i++)
+        parts_copy_sized((uint8_t *)lost + i * size, size, &spans->lost[i], sizeof *spans->lost);
     return spans->lost_count;
 }

@@ -257,7 +257,7 @@ static bool fail_at(const char *folder, uint64_t threads, bool mixes) {
     CHECK(raftlog_close(log) == (fails ? RAFTLOG_FAILED : 0));
     faults_of_note = false;
     log = open_at(folder);
-    CHECK(raftlog_missing(log, NULL, 0) == 0);
+    CHECK(raftlog_missing(log, NULL, 0, 0) == 0);
     finds(log, threads, answered);
     CHECK(!raftlog_close(log));
     drop(folder);
