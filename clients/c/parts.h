@@ -315,6 +315,9 @@ void parts_tell_damage(const raftlog *log, char *text, size_t room);
 int parts_note_cut(raftlog *log, const char *path, uint64_t size);
 void parts_forget_cuts(raftlog *log);
 
+/* The checksum of records. */
+uint32_t parts_crc(const uint8_t *at, size_t len);
+
 /* A record at a place in a file's bytes: where its footer begins, and its length. */
 struct parts_record {
     size_t footer, len;

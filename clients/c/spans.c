@@ -49,15 +49,6 @@ static const struct span empty = {1, 0, false};
 
 /* ---- bytes */
 
-static uint32_t crc_of(const uint8_t *bytes, size_t len) {
-    uint32_t crc = UINT32_MAX;
-    for (size_t i = 0; i < len; i++) {
-        crc ^= bytes[i];
-        for (int bit = 0; bit < 8; bit++) crc = crc >> 1 ^ (crc & 1 ? 0xEDB88320u : 0);
-    }
-    return ~crc;
-}
-
 static uint8_t *put_number(uint8_t *at, uint64_t number) {
     number = htobe64(number);
     memcpy(at, &number, 8);
@@ -74,7 +65,7 @@ static void fill(const struct parts_spans *spans, uint64_t count, uint8_t slot[S
     uint8_t *at = slot + MAGIC_LEN;
     for (size_t i = 0; i < sizeof numbers / sizeof *numbers; i++) at = put_number(at, numbers[i]);
     memcpy(at, spans->spill, len);
-    uint32_t crc = htole32(crc_of(slot, BODY));
+    uint32_t crc = htole32(parts_crc(slot, BODY));
     memcpy(slot + BODY, &crc, sizeof crc);
 }
 
@@ -84,7 +75,7 @@ static void take(struct parts_spans *spans, int place, const uint8_t slot[SLOT])
     memcpy(&crc, slot + BODY, sizeof crc);
     uint64_t numbers[7];
     for (int i = 0; i < 7; i++) numbers[i] = parts_number(slot + MAGIC_LEN + 8 * i);
-    bool is_note = le32toh(crc) == crc_of(slot, BODY) && !memcmp(slot, MAGIC, MAGIC_LEN) && numbers[6] <= BODY - HEAD;
+    bool is_note = le32toh(crc) == parts_crc(slot, BODY) && !memcmp(slot, MAGIC, MAGIC_LEN) && numbers[6] <= BODY - HEAD;
     if (!is_note || numbers[0] <= spans->count) return;
     spans->count = numbers[0];
     spans->synced = place;
