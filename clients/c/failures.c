@@ -25,6 +25,7 @@ const char *raftlog_code_text(int code) {
     case RAFTLOG_ABSENT: return "absent";
     case RAFTLOG_IN_USE: return "the folder is open already";
     case RAFTLOG_NOT_PLAIN: return "neither a folder nor a file of one name";
+    case RAFTLOG_LOST: return "a log file is missing or doesn't follow on the others";
     case RAFTLOG_FOLDER: return "the folder can't be opened";
     default: return "failure";
     }

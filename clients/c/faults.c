@@ -2,9 +2,11 @@
 #include "faults.h"
 
 #include <errno.h>
+#include <limits.h>
 #include <pthread.h>
 #include <signal.h>
 #include <stdio.h>
+#include <string.h>
 #include <sys/sendfile.h>
 #include <sys/stat.h>
 #include <sys/syscall.h>
@@ -13,8 +15,9 @@
 
 atomic_int faults_left, faults_orders_left, faults_syncs;
 int faults_error = EIO;
-bool faults_kill;
+bool faults_kill, faults_of_note;
 
+static _Thread_local bool was_note;
 static pthread_mutex_t lock = PTHREAD_MUTEX_INITIALIZER;
 static pthread_cond_t moved = PTHREAD_COND_INITIALIZER;
 
@@ -56,7 +59,34 @@ static int fails_at(atomic_int *turn) {
     return 1;
 }
 
-static int fails(void) { return fails_at(&faults_left); }
+static bool ends_as_note(const char *path) {
+    const char *slash = strrchr(path, '/');
+    return !strcmp(slash ? slash + 1 : path, "SPANS");
+}
+
+static bool is_note(int fd) {
+    char link[40], path[PATH_MAX];
+    snprintf(link, sizeof link, "/proc/self/fd/%d", fd);
+    ssize_t len = readlink(link, path, sizeof path - 1);
+    path[len > 0 ? len : 0] = 0;
+    return ends_as_note(path);
+}
+
+static bool is_folder(int fd) {
+    struct stat is;
+    return !fstat(fd, &is) && S_ISDIR(is.st_mode);
+}
+
+/* A file call by a descriptor, or of a name. */
+static int fails_of(bool of_note) {
+    int fails = fails_at(&faults_left);
+    if (fails) faults_of_note = of_note;
+    was_note = of_note;
+    return fails;
+}
+
+/* A sync of the folder right after a call on the note is the note's. */
+static int fails(int fd) { return fails_of(is_note(fd) || (was_note && is_folder(fd))); }
 
 void faults_hold_syncs(bool holds) { hold(&syncs, holds); }
 void faults_await_sync(void) { await(&syncs); }
@@ -89,7 +119,7 @@ bool faults_await_thread(atomic_int *thread, atomic_bool *has_ended) {
 
 ssize_t __real_pwrite(int fd, const void *bytes, size_t len, off_t at);
 ssize_t __wrap_pwrite(int fd, const void *bytes, size_t len, off_t at) {
-    if (!fails()) return __real_pwrite(fd, bytes, len, at);
+    if (!fails(fd)) return __real_pwrite(fd, bytes, len, at);
     if (__real_pwrite(fd, bytes, len / 2, at) < 0) return -1;
     errno = faults_error;
     return -1;
@@ -104,30 +134,30 @@ ssize_t __wrap_parts_give(int to, const void *order, size_t len) {
 int __real_fdatasync(int fd);
 int __wrap_fdatasync(int fd) {
     pass(&syncs);
-    if (fails() || __real_fdatasync(fd)) return -1;
+    if (fails(fd) || __real_fdatasync(fd)) return -1;
     atomic_fetch_add(&faults_syncs, 1);
     return 0;
 }
 
 int __real_ftruncate(int fd, off_t len);
-int __wrap_ftruncate(int fd, off_t len) { return fails() ? -1 : __real_ftruncate(fd, len); }
+int __wrap_ftruncate(int fd, off_t len) { return fails(fd) ? -1 : __real_ftruncate(fd, len); }
 int __real_fsync(int fd);
-int __wrap_fsync(int fd) { return fails() ? -1 : __real_fsync(fd); }
+int __wrap_fsync(int fd) { return fails(fd) ? -1 : __real_fsync(fd); }
 int __real_unlinkat(int in, const char *name, int flags);
 int __wrap_unlinkat(int in, const char *name, int flags) {
-    return fails() ? -1 : __real_unlinkat(in, name, flags);
+    return fails_of(ends_as_note(name)) ? -1 : __real_unlinkat(in, name, flags);
 }
 int __real_renameat(int in, const char *from, int other, const char *to);
 int __wrap_renameat(int in, const char *from, int other, const char *to) {
-    return fails() ? -1 : __real_renameat(in, from, other, to);
+    return fails_of(false) ? -1 : __real_renameat(in, from, other, to);
 }
 int __real_mkdirat(int in, const char *name, mode_t mode);
 int __wrap_mkdirat(int in, const char *name, mode_t mode) {
-    return fails() ? -1 : __real_mkdirat(in, name, mode);
+    return fails_of(false) ? -1 : __real_mkdirat(in, name, mode);
 }
 ssize_t __real_sendfile(int to, int from, off_t *at, size_t len);
 ssize_t __wrap_sendfile(int to, int from, off_t *at, size_t len) {
-    return fails() ? -1 : __real_sendfile(to, from, at, len);
+    return fails_of(false) ? -1 : __real_sendfile(to, from, at, len);
 }
 int __real_mkdir(const char *path, mode_t mode);
-int __wrap_mkdir(const char *path, mode_t mode) { return fails() ? -1 : __real_mkdir(path, mode); }
+int __wrap_mkdir(const char *path, mode_t mode) { return fails_of(false) ? -1 : __real_mkdir(path, mode); }

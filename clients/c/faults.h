@@ -11,6 +11,9 @@
 extern atomic_int faults_left;
 extern int faults_error;
 
+/* Whether the call that failed was one on the note of the files' numbers, which fails nothing. */
+extern bool faults_of_note;
+
 /* The process is killed at that call instead. */
 extern bool faults_kill;
 

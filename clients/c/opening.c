@@ -270,7 +270,16 @@ static int look_for_mark(raftlog *log, struct found *found) {
     return stands ? RAFTLOG_FOLDER : RAFTLOG_OK;
 }
 
-static int find(raftlog *log, struct found *found) {
+/* Compares the folder's note with the files that were found. */
+static int judge(raftlog *log, const char *settings, bool refuses_lost, struct found *found) {
+    int error = parts_begin_spans(log, settings);
+    for (size_t i = 0; i < found->count && !error; i++) error = parts_find_span(log, found->files[i].path);
+    if (!error) error = parts_judge_spans(log);
+    if (error) return fail_at(log, found, "SPANS", error);
+    return refuses_lost && parts_tell_lost(log, found->text, found->text_room) ? RAFTLOG_LOST : RAFTLOG_OK;
+}
+
+static int find(raftlog *log, const char *settings, bool refuses_lost, struct found *found) {
     int error = parts_make_folders(log->folder);
     if (!error) error = parts_sync_name(log->folder);
     if (!error) error = hold_own(log);
@@ -281,12 +290,22 @@ static int find(raftlog *log, struct found *found) {
     heap_begin(&log->heap, &log->lock);
     int fd = openat(log->root, ".", O_RDONLY | O_DIRECTORY | O_CLOEXEC);
     code = fd < 0 ? fail(found, log->folder, errno) : find_in(log, found, "", fd);
+    if (!code) code = judge(log, settings, refuses_lost, found);
     return code ? code : load_files(log, found);
 }
 
-int parts_find(raftlog *log, char *text, size_t room) {
+int parts_find(raftlog *log, const char *settings, bool refuses_lost, char *text, size_t room) {
     struct found found = {.text = text, .text_room = room};
-    int code = find(log, &found);
+    int code = find(log, settings, refuses_lost, &found);
     forget(&found);
+    return code;
+}
+
+int parts_accept(raftlog *log, char *text, size_t room) {
+    struct found found = {.text = text, .text_room = room};
+    int error = hold_own(log);
+    if (!error) error = make_absolute(log);
+    int code = error ? fail(&found, log->folder, error) : lock_folder(log, &found);
+    if (!code && (error = parts_forget_spans(log))) code = fail_at(log, &found, "SPANS", error);
     return code;
 }

@@ -118,10 +118,12 @@ static void count_names(struct parts_counts *counts, int kind, const char *last,
     parts_add(&counts->files, (uint64_t)(int64_t)more);
 }
 
-/* Carries out what is done to names. */
+/* Carries out what is done to names. Before a file's name goes, the note has a later first one; after a new one is there,
+ * a later last one. */
 static int order_names(raftlog *log, int kind, const char *path, const char *to) {
     parts_let_file_go(log);
     int error = parts_keep_lock(log);
+    if (!error && kind == RENAME) error = parts_leave_span(log, path);
     if (error) return error;
     if (kind == MAKE_FOLDER) return parts_make_below(log, path);
     const char *name, *next;
@@ -133,6 +135,7 @@ static int order_names(raftlog *log, int kind, const char *path, const char *to)
     else if (kind == DELETE) error = parts_delete_file(in, name);
     else error = parts_rename_file(in, name, other, next);
     if (!error) count_names(&log->counts, kind, next, had_place);
+    if (!error && kind != DELETE) parts_add_span(log, kind == RENAME ? to : path);
     return error;
 }
 
@@ -227,13 +230,27 @@ static void join(const raftlog *log, size_t *place, struct order *write) {
     }
 }
 
+/* Notes the last file that this order and the deletions right after it delete of a queue: the least one comes first. */
+static int leave_deleted(raftlog *log, size_t place, const char *path) {
+    struct order next;
+    char room[PARTS_PATH_ROOM], last[PARTS_PATH_ROOM];
+    strcpy(last, path);
+    while (read_order(log, &place, &next) && next.kind == DELETE) {
+        const char *other = text_of(room, next.path, next.path_len);
+        if (!parts_is_same_queue(log, path, other)) break;
+        strcpy(last, other);
+    }
+    return parts_leave_span(log, last);
+}
+
 static int obey_one(raftlog *log, size_t *place) {
     struct order order;
     char room[PARTS_PATH_ROOM];
     if (!read_order(log, place, &order)) return EINVAL;
     if (order.kind == WRITE && *place < log->given) join(log, place, &order);
     const char *path = text_of(room, order.path, order.path_len);
-    int error = carry_out(log, &order, path);
+    int error = order.kind == DELETE ? leave_deleted(log, *place, path) : 0;
+    if (!error) error = carry_out(log, &order, path);
     if (error) break_at(log, kind_text(order.kind), path, error);
     return error;
 }

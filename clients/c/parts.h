@@ -154,6 +154,7 @@ struct raftlog {
     char *folder;     /* its path, from the root on, for texts; NULL: in memory */
     struct parts_folder *folders; /* the log's own first, then those below that hold its files */
     size_t folder_count, folder_room;
+    struct parts_spans *spans; /* the note of the files' numbers; NULL: in memory */
     int root, held;   /* descriptors of the folder itself and of LOCK, both locked */
     unsigned forks;   /* `parts_forks` when the log was opened */
     struct raftlog *next_open, **at_open; /* of the logs that are open */
@@ -285,9 +286,27 @@ bool parts_take_answer(raftlog *log, raftlog_bytes *bytes, uint64_t len);
  * log, which may be closed meanwhile. The text is freed; NULL stands for that of the code. */
 int parts_fail(const raftlog *log, int code, char *text);
 
-/* Makes and locks the folder, and hands what stands in it over: a code, for a failure a text. */
-int parts_find(raftlog *log, char *text, size_t room);
+/* Makes and locks the folder, and hands what stands in it over: a code, for a failure a text. If asked, fails as
+ * RAFTLOG_LOST if the folder's note tells of lost files. */
+int parts_find(raftlog *log, const char *settings, bool refuses_lost, char *text, size_t room);
+/* Locks the folder, and removes its note. */
+int parts_accept(raftlog *log, char *text, size_t room);
 bool parts_is_log_name(const char *name);
+
+/* The note of the files' numbers. These answer 0, or an error of the system's. It is read first, then each path that the
+ * opening found is given, and then they are compared. */
+int parts_begin_spans(raftlog *log, const char *settings);
+int parts_find_span(raftlog *log, const char *path);
+int parts_judge_spans(raftlog *log);
+/* Says which file is lost, if one is. */
+bool parts_tell_lost(const raftlog *log, char *text, size_t room);
+/* After a file was made at a path. A refused note leaves the one before, which is true. */
+void parts_add_span(raftlog *log, const char *path);
+/* Before the file at a path, and all of its queue with smaller numbers, are deleted or get other names. */
+int parts_leave_span(raftlog *log, const char *path);
+bool parts_is_same_queue(raftlog *log, const char *path, const char *other);
+int parts_forget_spans(raftlog *log);
+void parts_end_spans(raftlog *log);
 
 /* Why an opening found corruption: the first damage of a log file, and its place. */
 void parts_tell_damage(const raftlog *log, char *text, size_t room);
@@ -295,6 +314,9 @@ void parts_tell_damage(const raftlog *log, char *text, size_t room);
 /* Notes what an opening cuts off the open file, of this path from the folder, if it cuts it to this size. */
 int parts_note_cut(raftlog *log, const char *path, uint64_t size);
 void parts_forget_cuts(raftlog *log);
+
+/* The checksum of records. */
+uint32_t parts_crc(const uint8_t *at, size_t len);
 
 /* A record at a place in a file's bytes: where its footer begins, and its length. */
 struct parts_record {

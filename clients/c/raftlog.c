@@ -52,6 +52,7 @@ static void let_go(raftlog *log) {
     parts_unlock(log);
     parts_let_folders_go(log);
     parts_forget_cuts(log);
+    parts_end_spans(log);
     pthread_mutex_destroy(&log->lock);
     free(log->folder);
     free(log);
@@ -93,23 +94,30 @@ static void forget_opening(struct parts_counts *counts) {
     atomic_store(&counts->files, files);
 }
 
-static int open_log(const char *folder, const char *settings, raftlog_progress *watch, void *with,
-                    raftlog **out, char *text, size_t room) {
+/* How a log is opened. */
+struct opening {
+    const char *settings;
+    raftlog_progress *watch;
+    void *with;
+    bool refuses_lost;
+};
+
+static int open_log(const char *folder, struct opening opening, raftlog **out, char *text, size_t room) {
     *out = NULL;
     if (!text) room = 0;
     if (room) text[0] = 0;
     raftlog *log = new_log();
     if (!log) return parts_put_text(raftlog_code_text(RAFTLOG_NO_MEMORY), text, room), RAFTLOG_NO_MEMORY;
-    log->watch = watch;
-    log->watch_with = with;
+    log->watch = opening.watch;
+    log->watch_with = opening.with;
     int code =
         folder && !(log->folder = strdup(folder)) ? RAFTLOG_NO_MEMORY : raft_c_begin(&log->handle);
     if (code) return parts_put_text(raftlog_code_text(code), text, room), let_go(log), code;
     int was;
     pthread_setcancelstate(PTHREAD_CANCEL_DISABLE, &was);
     parts_add_open(log);
-    if (folder) code = parts_find(log, text, room);
-    if (!code) code = open_found(log, settings, text, room);
+    if (folder) code = parts_find(log, opening.settings, opening.refuses_lost, text, room);
+    if (!code) code = open_found(log, opening.settings, text, room);
     pthread_setcancelstate(was, NULL);
     if (code) return let_go(log), code;
     forget_opening(&log->counts);
@@ -124,20 +132,37 @@ int raftlog_open(const char *folder, const char *settings, raftlog **out, char *
     return raftlog_open_watched(folder, settings, NULL, NULL, out, text, room);
 }
 
-int raftlog_open_watched(const char *folder, const char *settings, raftlog_progress *watch,
-                         void *with, raftlog **out, char *text, size_t room) {
+static int open_folder(const char *folder, struct opening opening, raftlog **out, char *text, size_t room) {
     if (!out) return RAFTLOG_INVALID;
     *out = NULL;
     if (!folder || !*folder) {
         if (text) parts_put_text("the folder has no name", text, room);
         return RAFTLOG_INVALID;
     }
-    return open_log(folder, settings, watch, with, out, text, room);
+    return open_log(folder, opening, out, text, room);
+}
+
+int raftlog_open_watched(const char *folder, const char *settings, raftlog_progress *watch,
+                         void *with, raftlog **out, char *text, size_t room) {
+    return open_folder(folder, (struct opening){settings, watch, with, false}, out, text, room);
+}
+
+int raftlog_open_whole(const char *folder, const char *settings, raftlog **out, char *text, size_t room) {
+    return open_folder(folder, (struct opening){settings, NULL, NULL, true}, out, text, room);
+}
+
+int raftlog_accept_missing(const char *folder, char *text, size_t room) {
+    if (!folder || !*folder) return RAFTLOG_INVALID;
+    if (!text) room = 0;
+    raftlog *log = new_log();
+    int code = !log || !(log->folder = strdup(folder)) ? RAFTLOG_NO_MEMORY : parts_accept(log, text, room);
+    if (log) let_go(log);
+    return code;
 }
 
 int raftlog_open_memory(const char *settings, raftlog **out, char *text, size_t room) {
     if (!out) return RAFTLOG_INVALID;
-    return open_log(NULL, settings, NULL, NULL, out, text, room);
+    return open_log(NULL, (struct opening){settings, NULL, NULL, false}, out, text, room);
 }
 
 /* In a child that was forked: frees memory alone. Nothing is freed if a thread of the parent was in a call on the log, since

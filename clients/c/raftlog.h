@@ -121,7 +121,9 @@ enum {
     /* A log file's name in the folder is that of a link, a device or a file with several names, or LOCK is a device. */
     RAFTLOG_NOT_PLAIN = 31,
     /* The folder cannot be made, locked or read. */
-    RAFTLOG_FOLDER = 32
+    RAFTLOG_FOLDER = 32,
+    /* A log file is missing, or does not follow on the others (`raftlog_open_whole`). The text names it. */
+    RAFTLOG_LOST = 33
 };
 
 /* The most that a round takes, that a purge writes before it waits for the disk, and that a purge of the Append queue
@@ -196,6 +198,36 @@ typedef struct {
  * monitor reports the cuts that are not stale. It cannot learn from `stale` whether a write that was not synced, or a
  * damaged last record, is before the stale record. */
 size_t raftlog_cuts(raftlog *log, raftlog_cut *cuts, size_t room, size_t size);
+
+/* The log notes in its folder, in the file SPANS, which numbers its files have had. By this note an opening knows which
+ * files were deleted by someone else. */
+enum {
+    /* Files of these numbers are needed, and do not exist: what they contained is lost. */
+    RAFTLOG_FILE_MISSING = 1,
+    /* A file of this number exists, and does not follow on the log's files. An opening reads it, and not those before. */
+    RAFTLOG_FILE_STRAY = 2,
+    /* Another program wrote to the log after the note of these numbers: whether a file is missing isn't known. */
+    RAFTLOG_NOTE_STALE = 3
+};
+
+typedef struct {
+    int kind;
+    bool is_rewrite;      /* of the Rewrite queue: the files are NUMBER.rewrite, else NUMBER.raftlog */
+    uint64_t first, last; /* the least and the greatest number; 16 digits of it begin a name */
+} raftlog_lost;
+
+/* Returns how many such facts the opening found, and stores the first of them, at most `room`, in `lost`, which may be
+ * NULL if `room` is 0. `size` is sizeof(raftlog_lost), as for `raftlog_stats`. After a crash or a kill there are none. An
+ * opening reports the same files again until a purge makes them unneeded or the loss is accepted. Without a note nothing
+ * is reported. */
+size_t raftlog_missing(raftlog *log, raftlog_lost *lost, size_t room, size_t size);
+
+/* As `raftlog_open`, but fails as RAFTLOG_LOST if a file is missing or a stray. It has changed no log file then. */
+int raftlog_open_whole(const char *folder, const char *settings, raftlog **out, char *text, size_t room);
+
+/* Accepts what is missing in a folder that nobody has open: it removes the note. The next opening writes one of the files
+ * that it finds. It fails as RAFTLOG_INVALID, RAFTLOG_IN_USE or RAFTLOG_FOLDER, with a text as `raftlog_open`. */
+int raftlog_accept_missing(const char *folder, char *text, size_t room);
 
 /* Syncs, closes and frees the log, whatever it returns. After RAFTLOG_OK all that was written survives a crash. After
  * RAFTLOG_IO or RAFTLOG_FAILED the next opening finds all that was done before; if the machine crashes first, all that

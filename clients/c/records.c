@@ -5,7 +5,7 @@
 enum { HEAD = PARTS_RECORD_HEADER, CHECKSUM = 4 };
 
 /* By half bytes: a constant table, which threads share. */
-static uint32_t crc_of(const uint8_t *at, size_t len) {
+uint32_t parts_crc(const uint8_t *at, size_t len) {
     static const uint32_t table[16] = {0x00000000, 0x1DB71064, 0x3B6E20C8, 0x26D930AC, 0x76DC4190, 0x6B6B51F4,
                                        0x4DB26158, 0x5005713C, 0xEDB88320, 0xF00F9344, 0xD6D6A3E8, 0xCB61B38C,
                                        0x9B64C2B0, 0x86D3D2D4, 0xA00AE278, 0xBDBDF21C};
@@ -21,7 +21,7 @@ static uint32_t crc_of(const uint8_t *at, size_t len) {
 static uint32_t signature_of(const uint8_t *at, size_t len) {
     uint32_t kept;
     memcpy(&kept, at + len - CHECKSUM, CHECKSUM);
-    return crc_of(at, len - CHECKSUM) ^ le32toh(kept);
+    return parts_crc(at, len - CHECKSUM) ^ le32toh(kept);
 }
 
 bool parts_read_header(const uint8_t *at, size_t left, struct parts_record *record) {

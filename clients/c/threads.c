@@ -247,14 +247,17 @@ static bool fail_at(const char *folder, uint64_t threads, bool mixes) {
         if (w[t].code == 0) CHECK(answered[t] == TURNS);
         else CHECK(was_reached && (w[t].code == RAFTLOG_IO || w[t].code == RAFTLOG_FAILED));
     }
-    CHECK(was_reached == is_told);
+    bool fails = was_reached && !faults_of_note;
+    CHECK(fails == is_told);
     uint64_t index;
-    if (was_reached)
+    if (fails)
         CHECK(raftlog_sync(log) == RAFTLOG_FAILED
               && raftlog_last_index(log, 1, &index) == RAFTLOG_FAILED);
     atomic_store(&faults_left, 0);
-    CHECK(raftlog_close(log) == (was_reached ? RAFTLOG_FAILED : 0));
+    CHECK(raftlog_close(log) == (fails ? RAFTLOG_FAILED : 0));
+    faults_of_note = false;
     log = open_at(folder);
+    CHECK(raftlog_missing(log, NULL, 0, 0) == 0);
     finds(log, threads, answered);
     CHECK(!raftlog_close(log));
     drop(folder);

@@ -6,6 +6,7 @@
 Records the file calls of each of the runs below, and builds for each call what a crash then may leave:
 all bytes, the synced ones, torn sectors, garbage where nothing was synced. In each of these folders the
 program must find every key that it had answered as synced, without a gap and with its value, twice alike.
+The note of the files' numbers must report no file as missing and none as a stray.
 The same with the syncs not counted has to find bad outcomes. Then each kind of call fails in turn,
 the program is killed, and a folder is opened twice. A program of these tests renames and deletes files,
 and what a crash leaves of their names is judged in the same way. Status 1 where any of it is wrong.
@@ -26,6 +27,8 @@ import sys
 import tempfile
 import time
 from concurrent.futures import ThreadPoolExecutor
+
+from spans import losses_in
 
 SECTOR = 512
 SIZE = 40
@@ -288,6 +291,9 @@ class Tests:
 
     def wrong_with(self, folder, answered, run):
         """What is wrong with a folder in which these keys were answered as synced, or None."""
+        lost = losses_in(folder)
+        if lost:
+            return f"the note reports {lost}"
         first = self.standing(folder, run)
         if isinstance(first, str):
             return first
@@ -298,6 +304,9 @@ class Tests:
         ran = self.run(folder, "put", 2, "key", "value", "--cut", *run.words)
         if ran.returncode != 0:
             return f"status {ran.returncode}: {ran.stderr.strip()}"
+        lost = losses_in(folder)
+        if lost:
+            return f"the note reports {lost} after a put"
         second = self.standing(folder, run)
         return None if first == second else f"{first} keys stand, and then {second}"
 

@@ -15,61 +15,13 @@ import itertools
 import random
 import sys
 
+from spans import Span, kept
+
 RUNS = ('disk', 'c', 'mixed', 'foreign')
 CONTROLS = ('first-late', 'first-unsynced', 'slots-in-turn', 'last-early', 'no-dropping-mark')
 
 
 TORN = (0, None)
-
-
-class Span:
-    def __init__(self, first=1, last=0, is_dropping=False):
-        self.first, self.last, self.is_dropping = first, last, is_dropping
-
-    def copy(self):
-        return Span(self.first, self.last, self.is_dropping)
-
-    def end(self, files):
-        end = self.last
-        while end + 1 in files:
-            end += 1
-        return end
-
-    def front(self, files):
-        if not self.is_dropping:
-            return self.first
-        later = [number for number in files if number >= self.first]
-        return max(self.first, min(later + [self.last]))
-
-    def is_stale(self, files):
-        end = self.end(files)
-        has_own = any(self.first <= number <= self.last for number in files)
-        return end > self.last + 1 or (any(number > end for number in files) and not has_own)
-
-    def __eq__(self, other):
-        return vars(self) == vars(other)
-
-    def at_opening(self, files):
-        if self.is_stale(files):
-            run = kept(files)
-            return Span(run[0], run[-1]) if run else Span()
-        return Span(self.front(files), self.end(files))
-
-    def report(self, files):
-        """Missing, stray and left-over numbers, and whether the note is stale."""
-        if self.is_stale(files):
-            return [], [], [], True
-        end = self.end(files)
-        missing = [number for number in range(self.front(files), self.last + 1) if number not in files]
-        return missing, [it for it in files if it > end], [it for it in files if it < self.first], False
-
-
-def kept(files):
-    """The files that an opening reads: those after the last missing number."""
-    run = []
-    for number in sorted(files):
-        run = run + [number] if run and run[-1] + 1 == number else [number]
-    return run
 
 
 class Crash(Exception):

@@ -1,0 +1,399 @@
+/* The note of the numbers that a log's files have had, in the file SPANS of its folder. By it a missing file is known.
+ * docs/FORMAT.md has its bytes. crates/raft_disk (src/spans.rt, src/span_file.rt) has the same rules.
+ *
+ * A note is written to the slot that has not the one that a crash leaves. So a write that a crash tears leaves the note
+ * before, which is true: files that it needs are deleted or renamed only after a later note was synced. A note that
+ * can't be written fails no write of the log. */
+#include "parts.h"
+
+#include <endian.h>
+#include <errno.h>
+#include <fcntl.h>
+#include <stdio.h>
+#include <stdlib.h>
+#include <sys/stat.h>
+#include <unistd.h>
+
+#define SPANS "SPANS"
+#define MAGIC "RAFT-LOG-SPANS-1"
+
+enum { APPEND, REWRITE, QUEUES };
+enum { SLOT = 512, BODY = 508, MAGIC_LEN = 16, HEAD = 72 };
+
+/* No file of a queue with a smaller number than the first is needed, and one with the last number existed (0: none did).
+ * If a purge was deleting files, the least first, the first ones may be missing. */
+struct span {
+    uint64_t first, last;
+    bool is_dropping;
+};
+
+/* Numbers of files, in ascending order when they are compared with the note. */
+struct numbers {
+    uint64_t *all;
+    size_t count, room;
+};
+
+struct parts_spans {
+    int file;      /* -1: there is no note */
+    bool is_silent; /* no note is written: something else has its name, or no span is known */
+    struct span queues[QUEUES];
+    char spill[SLOT - HEAD]; /* the second folder's path from the log's; empty if there is none */
+    uint64_t count;
+    int synced; /* the slot of the note that a crash leaves */
+    struct numbers found[QUEUES];
+    raftlog_lost *lost; /* what the note told at the opening */
+    size_t lost_count, lost_room;
+};
+
+static const struct span empty = {1, 0, false};
+
+/* ---- bytes */
+
+static uint8_t *put_number(uint8_t *at, uint64_t number) {
+    number = htobe64(number);
+    memcpy(at, &number, 8);
+    return at + 8;
+}
+
+static void fill(const struct parts_spans *spans, uint64_t count, uint8_t slot[SLOT]) {
+    const struct span *append = &spans->queues[APPEND], *rewrite = &spans->queues[REWRITE];
+    uint64_t flags = (uint64_t)append->is_dropping | (uint64_t)rewrite->is_dropping << 1;
+    size_t len = strlen(spans->spill) <= BODY - HEAD ? strlen(spans->spill) : 0;
+    uint64_t numbers[] = {count, append->first, append->last, rewrite->first, rewrite->last, flags, len};
+    memset(slot, 0, SLOT);
+    memcpy(slot, MAGIC, MAGIC_LEN);
+    uint8_t *at = slot + MAGIC_LEN;
+    for (size_t i = 0; i < sizeof numbers / sizeof *numbers; i++) at = put_number(at, numbers[i]);
+    memcpy(at, spans->spill, len);
+    uint32_t crc = htole32(parts_crc(slot, BODY));
+    memcpy(slot + BODY, &crc, sizeof crc);
+}
+
+/* Takes the note of a slot, if it is a later one. */
+static void take(struct parts_spans *spans, int place, const uint8_t slot[SLOT]) {
+    uint32_t crc;
+    memcpy(&crc, slot + BODY, sizeof crc);
+    uint64_t numbers[7];
+    for (int i = 0; i < 7; i++) numbers[i] = parts_number(slot + MAGIC_LEN + 8 * i);
+    bool is_note = le32toh(crc) == parts_crc(slot, BODY) && !memcmp(slot, MAGIC, MAGIC_LEN) && numbers[6] <= BODY - HEAD;
+    if (!is_note || numbers[0] <= spans->count) return;
+    spans->count = numbers[0];
+    spans->synced = place;
+    spans->queues[APPEND] = (struct span){numbers[1], numbers[2], numbers[5] & 1};
+    spans->queues[REWRITE] = (struct span){numbers[3], numbers[4], numbers[5] & 2};
+    memcpy(spans->spill, slot + HEAD, numbers[6]);
+    spans->spill[numbers[6]] = 0;
+}
+
+/* Whether a slot has no note yet, or begins as one. */
+static bool may_be_note(const uint8_t *slot, size_t len) {
+    size_t zeros = 0;
+    while (zeros < len && !slot[zeros]) zeros++;
+    return zeros == len || (len >= MAGIC_LEN && !memcmp(slot, MAGIC, MAGIC_LEN));
+}
+
+/* ---- what a note tells */
+
+static uint64_t after(uint64_t number) { return number < UINT64_MAX ? number + 1 : number; }
+
+/* The greatest number up to which files follow on the last one. */
+static uint64_t end_of(const struct span *span, const struct numbers *found) {
+    uint64_t end = span->last;
+    for (size_t i = 0; i < found->count; i++)
+        if (found->all[i] == after(end)) end = found->all[i];
+    return end;
+}
+
+/* The least number of a file that is needed. */
+static uint64_t front_of(const struct span *span, const struct numbers *found) {
+    uint64_t front = span->last;
+    if (!span->is_dropping) return span->first;
+    for (size_t i = found->count; i-- > 0;)
+        if (found->all[i] >= span->first && found->all[i] < front) front = found->all[i];
+    return front > span->first ? front : span->first;
+}
+
+/* A crash leaves at most one file after the last one. More are another program's, as are files after it if all of the
+ * span are gone. */
+static bool is_stale(const struct span *span, const struct numbers *found, uint64_t end) {
+    bool has_own = false, has_later = false;
+    for (size_t i = 0; i < found->count; i++) {
+        has_own |= found->all[i] >= span->first && found->all[i] <= span->last;
+        has_later |= found->all[i] > end;
+    }
+    return end > after(span->last) || (has_later && !has_own);
+}
+
+static int add_lost(struct parts_spans *spans, int kind, int queue, uint64_t first, uint64_t last) {
+    if (spans->lost_count == spans->lost_room) {
+        size_t room = spans->lost_room ? 2 * spans->lost_room : 8;
+        raftlog_lost *lost = realloc(spans->lost, room * sizeof *lost);
+        if (!lost) return ENOMEM;
+        spans->lost = lost;
+        spans->lost_room = room;
+    }
+    spans->lost[spans->lost_count++] = (raftlog_lost){kind, queue == REWRITE, first, last};
+    return 0;
+}
+
+static int report(struct parts_spans *spans, int queue) {
+    const struct span *span = &spans->queues[queue];
+    const struct numbers *found = &spans->found[queue];
+    uint64_t end = end_of(span, found), next = front_of(span, found);
+    int error = 0;
+    if (is_stale(span, found, end)) return add_lost(spans, RAFTLOG_NOTE_STALE, queue, span->first, span->last);
+    for (size_t i = 0; i < found->count && !error; i++) {
+        uint64_t number = found->all[i];
+        if (number > end) error = add_lost(spans, RAFTLOG_FILE_STRAY, queue, number, number);
+        if (number < span->first || number > span->last) continue;
+        if (next < number) error = add_lost(spans, RAFTLOG_FILE_MISSING, queue, next, number - 1);
+        next = after(number);
+    }
+    return error || next > span->last ? error : add_lost(spans, RAFTLOG_FILE_MISSING, queue, next, span->last);
+}
+
+/* The files that an opening reads without a note: those after the last missing number. */
+static struct span span_of(const struct numbers *found) {
+    struct span span = empty;
+    for (size_t i = 0; i < found->count; i++) {
+        if (found->all[i] != after(span.last)) span.first = found->all[i];
+        span.last = found->all[i];
+    }
+    return span;
+}
+
+/* The span at an opening: the note's, if it is true, else that of all files. If one of these is missing then, no span is
+ * known: a purge may have left the files before it, or someone else may have deleted it. */
+static bool find_span(const struct span *noted, const struct numbers *found, struct span *span) {
+    uint64_t end = end_of(noted, found);
+    *span = (struct span){front_of(noted, found), end, false};
+    if (!is_stale(noted, found, end)) return true;
+    *span = span_of(found);
+    return span->first == found->all[0];
+}
+
+static bool are_same(const struct span *one, const struct span *other) {
+    return one->first == other->first && one->last == other->last && one->is_dropping == other->is_dropping;
+}
+
+/* ---- the file */
+
+static int remove_note(raftlog *log) {
+    if (unlinkat(log->root, SPANS, 0)) return errno == ENOENT ? 0 : errno;
+    return fsync(log->root) ? errno : 0;
+}
+
+static int make_note(raftlog *log) {
+    int fd = openat(log->root, SPANS, O_RDWR | O_CREAT | O_EXCL | O_NOFOLLOW | O_CLOEXEC, 0666);
+    if (fd < 0) return errno;
+    log->spans->file = fd;
+    return ftruncate(fd, 2 * SLOT) ? errno : 0;
+}
+
+/* Writes and syncs a note of the spans. */
+static int write_note(raftlog *log) {
+    struct parts_spans *spans = log->spans;
+    uint8_t slot[SLOT];
+    int place = !spans->synced;
+    bool is_new = spans->file < 0;
+    if (spans->is_silent) return 0;
+    int error = is_new ? make_note(log) : 0;
+    if (error) return error;
+    fill(spans, spans->count + 1, slot);
+    ssize_t moved;
+    while ((moved = pwrite(spans->file, slot, SLOT, (off_t)place * SLOT)) < 0 && errno == EINTR) continue;
+    if (moved != SLOT) return moved < 0 ? errno : EIO;
+    spans->count++;
+    if (fdatasync(spans->file)) return errno;
+    spans->synced = place;
+    return is_new && fsync(log->root) ? errno : 0;
+}
+
+/* A note that can't be written is removed: without one nothing is reported as missing. */
+static int write_or_remove(raftlog *log) {
+    struct parts_spans *spans = log->spans;
+    if (spans->file < 0 || (!spans->is_silent && !write_note(log))) return 0;
+    close(spans->file);
+    spans->file = -1;
+    return remove_note(log);
+}
+
+static int read_note(struct parts_spans *spans, int fd) {
+    uint8_t bytes[2 * SLOT + 1];
+    ssize_t len;
+    if (fsync(fd)) return errno;
+    while ((len = pread(fd, bytes, sizeof bytes, 0)) < 0 && errno == EINTR) continue;
+    if (len < 0) return errno;
+    for (ssize_t at = 0; at < len; at += SLOT) {
+        size_t rest = (size_t)(len - at) < SLOT ? (size_t)(len - at) : SLOT;
+        spans->is_silent |= at == 2 * SLOT || !may_be_note(bytes + at, rest);
+    }
+    for (int place = 0; place < 2 && !spans->is_silent; place++)
+        if (len >= (place + 1) * SLOT) take(spans, place, bytes + place * SLOT);
+    return 0;
+}
+
+static int open_note(raftlog *log) {
+    struct parts_spans *spans = log->spans;
+    struct stat is;
+    if (fstatat(log->root, SPANS, &is, AT_SYMLINK_NOFOLLOW)) return errno == ENOENT ? 0 : errno;
+    if (!S_ISREG(is.st_mode) || is.st_nlink != 1) return spans->is_silent = true, 0;
+    int fd = openat(log->root, SPANS, O_RDWR | O_NOFOLLOW | O_CLOEXEC);
+    if (fd < 0) return errno;
+    int error = read_note(spans, fd);
+    if (error || spans->is_silent) return close(fd), error;
+    spans->file = fd;
+    return 0;
+}
+
+/* ---- which files are the log's */
+
+/* The queue of the log file at a path, and its number; -1 for another file. */
+static int queue_of(const struct parts_spans *spans, const char *path, uint64_t *number) {
+    const char *slash = strrchr(path, '/'), *name = slash ? slash + 1 : path;
+    size_t len = slash ? (size_t)(slash - path) : 0;
+    bool is_own = !len || (strlen(spans->spill) == len && !memcmp(spans->spill, path, len));
+    char *end;
+    if (!is_own || !parts_is_log_name(name)) return -1;
+    *number = strtoull(name, &end, 10);
+    return !strcmp(end, ".raftlog") ? APPEND : !strcmp(end, ".rewrite") ? REWRITE : -1;
+}
+
+/* The value of a line `spill-dir = ".."` of the settings. Another form, or a path that is too long, isn't known. */
+static bool find_spill(const char *settings, char *spill, size_t room) {
+    const char *key = strstr(settings, "spill-dir");
+    *spill = 0;
+    if (!key) return true;
+    const char *at = key + strlen("spill-dir");
+    at += strspn(at, " \t");
+    if (*at++ != '=') return false;
+    at += strspn(at, " \t");
+    const char *end = *at == '"' || *at == '\'' ? strchr(at + 1, *at) : NULL;
+    size_t len = end ? (size_t)(end - at - 1) : room;
+    if (len >= room || memchr(at, '\\', len + 1) || memchr(at, '\n', len + 1)) return false;
+    bool is_only = (key == settings || key[-1] == '\n') && !strstr(end, "spill-dir");
+    memcpy(spill, at + 1, is_only ? len : 0);
+    spill[is_only ? len : 0] = 0;
+    return is_only;
+}
+
+static int compare(const void *one, const void *other) {
+    uint64_t a = *(const uint64_t *)one, b = *(const uint64_t *)other;
+    return (a > b) - (a < b);
+}
+
+/* ---- what the other files call */
+
+int parts_begin_spans(raftlog *log, const char *settings) {
+    struct parts_spans *spans = calloc(1, sizeof *spans);
+    char spill[sizeof spans->spill];
+    if (!spans) return ENOMEM;
+    log->spans = spans;
+    spans->file = -1;
+    spans->synced = 1;
+    spans->queues[APPEND] = spans->queues[REWRITE] = empty;
+    int error = open_note(log);
+    bool is_known = find_spill(settings ? settings : "", spill, sizeof spill);
+    if (*spill) memcpy(spans->spill, spill, sizeof spill);
+    if (error || is_known) return error;
+    spans->is_silent = true;
+    if (spans->file >= 0) error = remove_note(log);
+    return error;
+}
+
+int parts_find_span(raftlog *log, const char *path) {
+    uint64_t number;
+    int queue = queue_of(log->spans, path, &number);
+    if (queue < 0) return 0;
+    struct numbers *found = &log->spans->found[queue];
+    if (found->count == found->room) {
+        size_t room = found->room ? 2 * found->room : 64;
+        uint64_t *all = realloc(found->all, room * sizeof *all);
+        if (!all) return ENOMEM;
+        found->all = all;
+        found->room = room;
+    }
+    found->all[found->count++] = number;
+    return 0;
+}
+
+/* A new note is written if there is none, if a crash left it old, or if another program made it stale; but none if a
+ * file may be missing. */
+int parts_judge_spans(raftlog *log) {
+    struct parts_spans *spans = log->spans;
+    struct span now[QUEUES];
+    bool is_old = false, is_known = true;
+    int error = 0;
+    if (spans->is_silent) return 0;
+    for (int queue = 0; queue < QUEUES && !error; queue++) {
+        struct numbers *found = &spans->found[queue];
+        if (found->count) qsort(found->all, found->count, sizeof *found->all, compare);
+        if (spans->count) error = report(spans, queue);
+        is_known &= find_span(&spans->queues[queue], found, &now[queue]);
+        is_old |= !are_same(&spans->queues[queue], &now[queue]);
+    }
+    spans->is_silent = !is_known;
+    if (error || spans->is_silent) return error;
+    memcpy(spans->queues, now, sizeof now);
+    if (is_old) write_note(log);
+    return 0;
+}
+
+void parts_add_span(raftlog *log, const char *path) {
+    uint64_t number;
+    int queue = queue_of(log->spans, path, &number);
+    if (queue < 0) return;
+    struct span *span = &log->spans->queues[queue];
+    if (!span->last) span->first = number;
+    else if (number != after(span->last)) return;
+    span->last = number;
+    write_note(log);
+}
+
+bool parts_is_same_queue(raftlog *log, const char *path, const char *other) {
+    uint64_t number;
+    int queue = queue_of(log->spans, path, &number);
+    return queue >= 0 && queue == queue_of(log->spans, other, &number);
+}
+
+int parts_leave_span(raftlog *log, const char *path) {
+    uint64_t number;
+    int queue = queue_of(log->spans, path, &number);
+    struct span *span = &log->spans->queues[queue < 0 ? 0 : queue];
+    if (queue < 0 || number < span->first) return 0;
+    span->first = after(number);
+    if (number > span->last) span->last = number;
+    return write_or_remove(log);
+}
+
+bool parts_tell_lost(const raftlog *log, char *text, size_t room) {
+    const struct parts_spans *spans = log->spans;
+    const raftlog_lost *lost = NULL;
+    for (size_t i = 0; i < spans->lost_count && !lost; i++)
+        if (spans->lost[i].kind != RAFTLOG_NOTE_STALE) lost = &spans->lost[i];
+    if (!lost) return false;
+    const char *end = lost->is_rewrite ? "rewrite" : "raftlog";
+    const char *what = lost->kind == RAFTLOG_FILE_STRAY ? "does not follow on the files before it" : "is missing";
+    snprintf(text, room, "%s/%016llu.%s %s, by the note in SPANS: put the files back, or accept the loss", log->folder,
+             (unsigned long long)lost->first, end, what);
+    return true;
+}
+
+int parts_forget_spans(raftlog *log) { return remove_note(log); }
+
+void parts_end_spans(raftlog *log) {
+    struct parts_spans *spans = log->spans;
+    if (!spans) return;
+    if (spans->file >= 0) close(spans->file);
+    for (int queue = 0; queue < QUEUES; queue++) free(spans->found[queue].all);
+    free(spans->lost);
+    free(spans);
+}
+
+size_t raftlog_missing(raftlog *log, raftlog_lost *lost, size_t room, size_t size) {
+    if (!log || !log->spans) return 0;
+    const struct parts_spans *spans = log->spans;
+    for (size_t i = 0; lost && i < spans->lost_count && i < room; i++)
+        parts_copy_sized((uint8_t *)lost + i * size, size, &spans->lost[i], sizeof *spans->lost);
+    return spans->lost_count;
+}
