@@ -110,7 +110,7 @@ fn both_read_the_same_settings(rt: HostRuntime) -> Result<(), Fail> {
 /// The lines of a table that both refuse, and why `raft_settings` does.
 struct Refused(&'static str, &'static str);
 
-static REFUSED: [Refused; 24] = [
+static REFUSED: [Refused; 26] = [
     Refused("dir", "the settings are not valid TOML"),
     Refused(
         "dir = \"a\"\ndir = \"a\"",
@@ -122,6 +122,8 @@ static REFUSED: [Refused; 24] = [
     ),
     Refused("dir = 1", "dir"),
     Refused("dir = [\"a\"]", "dir"),
+    Refused("dir = 1979-05-27", "dir"),
+    Refused("spill-dir = 1979-05-27", "spill-dir"),
     Refused("spill-dir = true", "spill-dir"),
     Refused("recovery-mode = \"tolerate\"", "recovery-mode"),
     Refused("recovery-mode = 1", "recovery-mode"),
@@ -177,23 +179,12 @@ fn both_refuse_the_same_settings(rt: HostRuntime) -> Result<(), Fail> {
 /// line of the text that is then written for the settings.
 struct Different(&'static str, &'static str, &'static str);
 
-static DIFFERENT: [Different; 5] = [
+static DIFFERENT: [Different; 3] = [
     // A mode as a table whose key is its name.
     Different(
         "name = \"store\"\n[raft-engine]\nrecovery-mode = { tolerate-any-corruption = {} }",
         "recovery-mode",
         "recovery-mode = \"tolerate-any-corruption\"",
-    ),
-    // A date, which is read as a text.
-    Different(
-        "name = \"store\"\n[raft-engine]\ndir = 1979-05-27",
-        "dir",
-        "dir = \"1979-05-27\"",
-    ),
-    Different(
-        "name = \"store\"\n[raft-engine]\nspill-dir = 1979-05-27",
-        "spill-dir",
-        "spill-dir = \"1979-05-27\"",
     ),
     // An array of the first values of the struct; the others are the default ones.
     Different(
