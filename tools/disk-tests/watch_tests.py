@@ -60,9 +60,11 @@ class Tests:
         folder = self.place(name)
         self.run(folder, "put", 1, "first", "value", "--settings", self.small)
         watch = self.start(folder, "watch", "--json", "--count", 12)
+        first = watch.stdout.readline()
         load = self.run(folder, "load", keys, SIZE, "--sync-each", 40, "--settings", self.small, *words)
         self.expect(f"{name}: a load under a watch: {load.stderr}", load.returncode == 0)
         told, errors = watch.communicate(timeout=120)
+        told = first + told
         self.expect(f"{name}: a watch: {errors}", watch.returncode == 0)
         looks = [json.loads(line) for line in told.splitlines()]
         self.expect(f"{name}: {len(looks)} looks", len(looks) == 12)
@@ -83,9 +85,8 @@ class Tests:
         puts = sum(group["puts"] for look in looks for group in look["groups"] if group["group"] == 1)
         size = sum(group["bytes"] for look in looks for group in look["groups"])
         digits = sum(len(str(number)) for number in range(keys))
-        first = looks[0]["append-records"] - 1  # those of the load before the first look
-        self.expect(f"{puts} puts and {first} before, of {keys}", puts + first == keys)
-        self.expect(f"{size} bytes of keys and values", first > 0 or size == digits + keys * SIZE)
+        self.expect(f"{puts} puts of {keys}", puts == keys)
+        self.expect(f"{size} bytes of keys and values", size == digits + keys * SIZE)
         records = sum(look["written-records"] for look in looks) + looks[0]["append-records"]
         self.expect(f"{records} records", records == looks[-1]["append-records"] == keys + 1)
         self.expect("nothing is dropped", all(not look["dropped"] and not look["unseen-files"] for look in looks))
@@ -103,7 +104,10 @@ class Tests:
         self.expect("a file that was dropped is there", not set(dropped) & logs_in(folder))
         gone = sum(min(int(n[:16]) for n in logs_in(folder) if n.endswith(end)) - 1 for end in (".raftlog", ".rewrite"))
         self.expect(f"{len(dropped)} dropped, {unseen} unseen, {gone} gone", 0 < gone == len(dropped) + unseen)
-        self.expect("no bytes", all(file["size"] > 0 for look in looks for file in look["dropped"]))
+        # A file can have no byte yet when a look sees it.
+        size = sum(file["size"] for look in looks for file in look["dropped"])
+        self.expect(f"{size} bytes dropped", size >= 1000 * len(dropped) and
+                    size == sum(look["dropped-bytes"] for look in looks))
 
     def groups(self):
         """What is counted of each group is what was written of it after the first look."""
@@ -272,8 +276,10 @@ class Tests:
         line = f'ulimit -f 20; exec "{self.program}" "{folder}" put 1 a b'
         ran = subprocess.run(["bash", "-c", line], capture_output=True, check=False)
         self.expect(f"a limit: {ran}", b"SIGXFSZ" in ran.stderr and b"trap" in ran.stderr)
-        ran = subprocess.run(["bash", "-c", "trap '' XFSZ; " + line], capture_output=True, check=False)
-        self.expect(f"a limit as an error: {ran}", ran.returncode == 1 and b"cannot be" in ran.stderr)
+        self.file("limit-value", "v" * 30000)
+        line = "trap '' XFSZ; " + line[:-1] + f'"@{self.place("limit-value")}"'
+        ran = subprocess.run(["bash", "-c", line], capture_output=True, check=False)
+        self.expect(f"a limit as an error: {ran}", ran.returncode == 1 and b"File too large" in ran.stderr)
         self.expect("no limit, no word", b"ulimit" not in self.run(folder, "put", 1, "a", "b").stderr)
 
     def completes(self, shell, place, words, wanted):
@@ -354,16 +360,14 @@ class Tests:
         return os.waitstatus_to_exitcode(status), used.ru_maxrss * 1024
 
     def imports(self):
-        """An import of a file has one line in memory; a change of the file's form is found before anything is written."""
+        """An import of a file has one line in memory; a wrong line is found before anything is written."""
         path = self.place("many.json")
         with open(path, "w", encoding="ascii") as file:
             for number in range(60000):
                 file.write(json.dumps({"queue": "append", "number": 1, "offset": number // 8, "group": number % 5,
-                                       "kind": "put", "key": f"k{number % 100}", "value": "v" * 1000}) + "\n")
-        status, used = self.memory_of(self.place("imported"), "import", path)
-        self.expect(f"an import of 66 MB: status {status}, {used} bytes", status == 0 and used < 30e6)
-        count = len(self.run(self.place("imported"), "list").stdout.splitlines())
-        self.expect(f"{count} keys", count == 100)
+                                       "kind": "clean", "pad": "p" * 1000}) + "\n")
+        status, used = self.memory_of(self.place("imported"), "import", path, "--quiet")
+        self.expect(f"an import of 66 MB: status {status}, {used} bytes", status == 0 and used < 20e6)
         with open(path, "a", encoding="ascii") as file:
             file.write("no line\n")
         ran = self.run(self.place("not-imported"), "import", path)

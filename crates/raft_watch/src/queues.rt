@@ -16,8 +16,6 @@ pub(crate) struct WatchedQueue {
     alloc: Global,
     queue: LogQueue,
     pub files: BTreeMap<u64, WatchedFile>,
-    /// The greatest number of a file in the last look.
-    newest: Option<u64>,
 }
 
 // One call in a proof that drops it; derived, it would be one of each field (docs/DECISIONS.md).
@@ -27,7 +25,6 @@ impl Drop for WatchedQueue {
             alloc: _,
             queue: _,
             files: _files,
-            newest: _,
         } = self;
     }
 }
@@ -46,7 +43,6 @@ impl WatchedQueue {
             alloc,
             queue,
             files: BTreeMap::new(alloc),
-            newest: None,
         }
     }
 
@@ -58,7 +54,8 @@ impl WatchedQueue {
         changes: &mut Changes,
     ) -> Result<()> {
         let listed = folder.files_of(self.queue)?;
-        self.note_unseen(&listed, changes);
+        let first = self.first_number();
+        let dropped_before = changes.dropped.len();
         let mut known = mem::replace(&mut self.files, BTreeMap::new(self.alloc));
         for (place, file) in listed.iter().enumerate() {
             let watched = match known.remove(&file.id.seq) {
@@ -74,22 +71,25 @@ impl WatchedQueue {
             };
             drop_file(file, changes)?;
         }
+        let dropped = changes.dropped.len().saturating_sub(dropped_before);
+        changes.unseen = changes
+            .unseen
+            .saturating_add(self.gone_since(first).saturating_sub(dropped as u64));
         Ok(())
     }
 
-    // Counts the numbers between the last file of the look before and the next one that is there:
-    // these files were made and dropped meanwhile.
-    fn note_unseen(&mut self, listed: &[LogFile], changes: &mut Changes) {
-        let Some(last) = listed.last() else {
-            return;
-        };
-        if let Some(newest) = self.newest {
-            if let Some(next) = listed.iter().find(|file| newest < file.id.seq) {
-                let between = next.id.seq.saturating_sub(newest).saturating_sub(1);
-                changes.unseen = changes.unseen.saturating_add(between);
-            }
+    fn first_number(&self) -> Option<u64> {
+        let (number, _) = self.files.iter().next()?;
+        Some(*number)
+    }
+
+    // How many files are gone since the first one had this number: a queue drops its first files,
+    // and numbers rise by one.
+    fn gone_since(&self, first: Option<u64>) -> u64 {
+        match (first, self.first_number()) {
+            (Some(before), Some(now)) => now.saturating_sub(before),
+            _ => 0,
         }
-        self.newest = Some(last.id.seq);
     }
 
     fn follow(
