@@ -14,6 +14,10 @@ use Rattle.raft_disk.specs.declared.disk.Disk.{Ghosts as DiskGhosts}
 use Rattle.raft_disk.specs.contracts.mirror.Mirror as mirror
 use Rattle.raft_memory.specs.contracts.refusals.RefusalCount as refusals
 use Rattle.raft_disk.specs.contracts.told.Call as call
+use Rattle.raft_disk.specs.contracts.spans.Spans as spans
+use Rattle.raft_disk.specs.contracts.spans.SpanReport as report
+use Rattle.raft_disk.specs.contracts.spans.SpanReports as reports
+use Rattle.raft_disk.specs.contracts.span_file.SpanFile as span_file
 
 call_send : IsSend call.the_row
 call_send = search (sendable, items.crosses, noted_field_send) depth 20
@@ -38,6 +42,42 @@ history_sync A a = record {
   shared = λ d b o κ q. part_keyless (history.the_row A) (history_send A a) q d b o;
 }
 
+spans_field_send : IsSend (spans.the_field).row
+spans_field_send = search (sendable, items.crosses) depth 20
+
+spans_field_sync : IsSync (spans.the_field).row
+spans_field_sync = search (sendable, items.crosses) depth 20
+
+report_field_send : IsSend (report.the_field).row
+report_field_send = search (sendable, items.crosses) depth 20
+
+report_field_sync : IsSync (report.the_field).row
+report_field_sync = search (sendable, items.crosses) depth 20
+
+reports_field_send : IsSend (reports.the_field).row
+reports_field_send = search (sendable, items.crosses, report_field_send) depth 20
+
+reports_field_sync : IsSync (reports.the_field).row
+reports_field_sync = search (sendable, items.crosses, report_field_sync) depth 20
+
+span_file_field_send : IsSend (span_file.the_field).row
+span_file_field_send = search (
+  sendable,
+  items.crosses,
+  file_field_send,
+  spans_field_send,
+  reports_field_send,
+) depth 20
+
+span_file_field_sync : IsSync (span_file.the_field).row
+span_file_field_sync = search (
+  sendable,
+  items.crosses,
+  file_field_sync,
+  spans_field_sync,
+  reports_field_sync,
+) depth 20
+
 pub folder_send : IsSend folder.the_row
 folder_send = search (
   sendable,
@@ -46,6 +86,7 @@ folder_send = search (
   file_field_send,
   history_send,
   memory_send,
+  span_file_field_send,
 ) depth 20
 
 pub folder_sync : IsSync folder.the_row
@@ -56,6 +97,7 @@ folder_sync = search (
   file_field_sync,
   history_sync,
   memory_send,
+  span_file_field_sync,
 ) depth 20
 
 refusals_field_send : IsSend (refusals.the_field).row
