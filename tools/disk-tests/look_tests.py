@@ -413,6 +413,7 @@ def main():
         tests.plans()
         tests.noted()
         tests.gap_without_note()
+        tests.killed_first()
         tests.killed_closes()
         tests.other_file_system()
         tests.strays()

@@ -240,6 +240,20 @@ class Plans:
             self.expect(f"a gap without a note: {ran.stderr}", ran.returncode == 7 and b"cannot be known" in ran.stderr)
             self.expect("it changes nothing", state_of(folder) == before)
 
+    def killed_first(self):
+        """A kill at any call of a log's first opening leaves a log without an alarm."""
+        for call in range(1, 1000):
+            folder = os.path.join(self.work, "first-killed")
+            ran = self.run(folder, "put", 1, "a", "b", env=self.calling(KILL=str(call)))
+            if os.path.isdir(folder):
+                checked = self.run(folder, "check")
+                self.expect(f"call {call} of the first opening: check: {checked.stdout}", checked.returncode in (0, 4))
+                put = self.run(folder, "put", 1, "a", "b")
+                self.expect(f"call {call} of the first opening: a put: {put.stderr}", put.returncode == 0)
+                shutil.rmtree(folder)
+            if ran.returncode == 0:
+                break
+
     def killed_closes(self):
         """B2 of the review: a kill at any call of a rewriting refuses no later change."""
         base = os.path.join(self.work, "close-base")

@@ -25,6 +25,9 @@ pub(crate) struct ReadFiles<'a> {
     pub planner: Planner<'a>,
     pub view: &'a FolderView,
     pub files: &'a [LogFile],
+    /// Whether each queue had a file, if the note of spans says so.
+    pub had_append: Option<bool>,
+    pub had_rewrite: Option<bool>,
 }
 
 /// What a folder's files are to those that are read.
@@ -85,23 +88,32 @@ impl ReadFiles<'_> {
                 LogQueue::Append => first = file.id.seq.min(first),
             }
         }
-        if self.files.is_empty() || first <= 1 {
+        if self.files.is_empty() || first <= 1 || self.had_rewrite == Some(false) {
             return None;
         }
         Some(first)
     }
 
-    // How many files the Rewrite queue has, if the Append queue has none.
+    // How many files the Rewrite queue has, if the Append queue had files and has none.
     fn files_without_append(&self) -> Option<u64> {
+        let mut is_later = false;
         for file in self.files {
-            if let LogQueue::Append = file.id.queue {
-                return None;
+            match file.id.queue {
+                LogQueue::Append => return None,
+                LogQueue::Rewrite => is_later = is_later || self.is_later(file),
             }
         }
-        if self.files.is_empty() {
+        if self.files.is_empty() || !self.had_append.unwrap_or(is_later) {
             return None;
         }
         Some(self.files.len() as u64)
+    }
+
+    // Whether a file of the Rewrite queue is made or written only after the Append queue has files:
+    // the first opening makes the Rewrite queue's first file, and a kill may leave that alone.
+    fn is_later(&self, file: &LogFile) -> bool {
+        let size = self.view.size(file.path.as_str()).unwrap_or(0);
+        file.id.seq > 1 || size > LogFileFormat::max_encoded_len() as u64
     }
 
     fn add_entry(&self, entry: &DirEntry, plan: &mut Plan) -> Result<()> {
