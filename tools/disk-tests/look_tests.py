@@ -410,6 +410,7 @@ def main():
         tests.passed()
         tests.left_out()
         tests.gone_queue()
+        tests.table()
         tests.plans()
         tests.noted()
         tests.gap_without_note()
