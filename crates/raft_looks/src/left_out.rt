@@ -25,9 +25,6 @@ pub(crate) struct ReadFiles<'a> {
     pub planner: Planner<'a>,
     pub view: &'a FolderView,
     pub files: &'a [LogFile],
-    /// Whether each queue had a file, if the note of spans says so.
-    pub had_append: Option<bool>,
-    pub had_rewrite: Option<bool>,
 }
 
 /// What a folder's files are to those that are read.
@@ -88,7 +85,7 @@ impl ReadFiles<'_> {
                 LogQueue::Append => first = file.id.seq.min(first),
             }
         }
-        if self.files.is_empty() || first <= 1 || self.had_rewrite == Some(false) {
+        if self.files.is_empty() || first <= 1 {
             return None;
         }
         Some(first)
@@ -103,10 +100,10 @@ impl ReadFiles<'_> {
                 LogQueue::Rewrite => is_later = is_later || self.is_later(file),
             }
         }
-        if self.files.is_empty() || !self.had_append.unwrap_or(is_later) {
-            return None;
+        if is_later {
+            return Some(self.files.len() as u64);
         }
-        Some(self.files.len() as u64)
+        None
     }
 
     // Whether a file of the Rewrite queue is made or written only after the Append queue has files:

@@ -30,14 +30,6 @@ impl Folder {
         }
     }
 
-    /// Whether a queue had a file, if the note says so.
-    pub(crate) fn had(&self, queue: LogQueue) -> Result<Option<bool>> {
-        match self.known(queue)? {
-            Some(known) => Ok(Some(known.last > 0)),
-            None => Ok(None),
-        }
-    }
-
     /// What the note says of a queue; none without a note, and if another program wrote to the log
     /// after it.
     pub(crate) fn known(&self, queue: LogQueue) -> Result<Option<Known>> {

@@ -144,8 +144,6 @@ impl Folder {
             planner,
             view: &self.view,
             files: &self.files,
-            had_append: self.had(LogQueue::Append)?,
-            had_rewrite: self.had(LogQueue::Rewrite)?,
         };
         read.add_left_out(plan)?;
         let spill = match &self.note {
