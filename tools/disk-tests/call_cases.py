@@ -84,7 +84,8 @@ class Calls:
             for name in logs_in(folder) - before:
                 os.unlink(os.path.join(folder, name))
         target = os.path.join(self.work, "refused-fork")
-        ran = self.run(folder, "fork", target, env=self.calling(FAIL=f"pwrite:1:{errno.EIO}"))
+        # The first one is the note of the numbers.
+        ran = self.run(folder, "fork", target, env=self.calling(FAIL=f"pwrite:2:{errno.EIO}"))
         path = os.path.join(target, f"{1:016}.raftlog").encode()
         told = path + b": it cannot be written: Input/output error" in ran.stderr
         self.expect(f"a fork's refused call: {ran.stderr}", ran.returncode == 1 and told)

@@ -9,6 +9,7 @@ import subprocess
 from folders import add, bytes_of, flip, logs_in, reserved_in, state_of
 
 LINE = re.compile(r"plan (\S+) path (.*) files (\d+) at (\d+) bytes (\d+) check (\d) change (\d) cause (.*) mend (.*)")
+ROOT = os.path.dirname(os.path.dirname(os.path.dirname(os.path.abspath(__file__))))
 FIELDS = ["plan", "path", "files", "at", "bytes", "check", "change", "cause", "mend"]
 SMALL = 'target-file-size = "1KB"\npurge-threshold = "1KB"\nenable-log-recycle = false\n'
 
@@ -36,6 +37,17 @@ class Plans:
     def without_note(self, folder):
         """What an opening knows by the names alone."""
         os.unlink(os.path.join(folder, "SPANS"))
+
+    def table(self):
+        """The table of docs/RAFTCTL.md is that of the source."""
+        with open(os.path.join(ROOT, "crates/raft_opening_plan/src/kind.rt"), encoding="utf-8") as file:
+            rows = re.findall(r'Row\("([a-z-]+)", Status::(\w+), Change::(\w+)\)', file.read())
+        checks = {"Done": "0", "WouldCut": "4", "WouldFail": "5", "WouldPass": "6"}
+        changes = {"GoesOn": "0", "Fails": "1", "Refused": "7"}
+        wanted = {(name, checks[check], changes[change]) for name, check, change in rows}
+        with open(os.path.join(ROOT, "docs/RAFTCTL.md"), encoding="utf-8") as file:
+            told = set(re.findall(r"^\| `([a-z-]+)` \| .* \| (\d) \| (\d) \| [^|]*\|$", file.read(), re.M))
+        self.expect(f"the table of the document: {wanted ^ told}", wanted == told and len(told) == 12)
 
     def plans(self):
         """Each kind of item: its statuses, the same lines from each command, and what its command mends."""
@@ -239,6 +251,20 @@ class Plans:
             ran = self.run(folder, "put", 1, "a", "b")
             self.expect(f"a gap without a note: {ran.stderr}", ran.returncode == 7 and b"cannot be known" in ran.stderr)
             self.expect("it changes nothing", state_of(folder) == before)
+
+    def killed_first(self):
+        """A kill at any call of a log's first opening leaves a log without an alarm."""
+        for call in range(1, 1000):
+            folder = os.path.join(self.work, "first-killed")
+            ran = self.run(folder, "put", 1, "a", "b", env=self.calling(KILL=str(call)))
+            if os.path.isdir(folder):
+                checked = self.run(folder, "check")
+                self.expect(f"call {call} of the first opening: check: {checked.stdout}", checked.returncode in (0, 4))
+                put = self.run(folder, "put", 1, "a", "b")
+                self.expect(f"call {call} of the first opening: a put: {put.stderr}", put.returncode == 0)
+                shutil.rmtree(folder)
+            if ran.returncode == 0:
+                break
 
     def killed_closes(self):
         """B2 of the review: a kill at any call of a rewriting refuses no later change."""

@@ -136,7 +136,7 @@ fn is_all(bytes: &[u8], parts: &[&[u8]]) -> bool {
     rest.is_empty()
 }
 
-// The lock's file isn't one of those that stood before.
+// An opening makes the lock's file and the note of the numbers.
 fn stays(before: &[(String, Vec<u8>)], after: &[(String, Vec<u8>)]) -> bool {
     for file in before {
         if !after.contains(file) {
@@ -144,7 +144,8 @@ fn stays(before: &[(String, Vec<u8>)], after: &[(String, Vec<u8>)]) -> bool {
         }
     }
     for file in after {
-        if !before.contains(file) && file.0.as_str() != "LOCK" {
+        let is_note = matches!(file.0.as_str(), "LOCK" | "SPANS");
+        if !before.contains(file) && !is_note {
             return false;
         }
     }

@@ -91,17 +91,26 @@ impl ReadFiles<'_> {
         Some(first)
     }
 
-    // How many files the Rewrite queue has, if the Append queue has none.
+    // How many files the Rewrite queue has, if the Append queue had files and has none.
     fn files_without_append(&self) -> Option<u64> {
+        let mut is_later = false;
         for file in self.files {
-            if let LogQueue::Append = file.id.queue {
-                return None;
+            match file.id.queue {
+                LogQueue::Append => return None,
+                LogQueue::Rewrite => is_later = is_later || self.is_later(file),
             }
         }
-        if self.files.is_empty() {
-            return None;
+        if is_later {
+            return Some(self.files.len() as u64);
         }
-        Some(self.files.len() as u64)
+        None
+    }
+
+    // Whether a file of the Rewrite queue is made or written only after the Append queue has files:
+    // the first opening makes the Rewrite queue's first file, and a kill may leave that alone.
+    fn is_later(&self, file: &LogFile) -> bool {
+        let size = self.view.size(file.path.as_str()).unwrap_or(0);
+        file.id.seq > 1 || size > LogFileFormat::max_encoded_len() as u64
     }
 
     fn add_entry(&self, entry: &DirEntry, plan: &mut Plan) -> Result<()> {
