@@ -179,7 +179,7 @@ fn both_refuse_the_same_settings(rt: HostRuntime) -> Result<(), Fail> {
 /// line of the text that is then written for the settings.
 struct Different(&'static str, &'static str, &'static str);
 
-static DIFFERENT: [Different; 3] = [
+static DIFFERENT: [Different; 4] = [
     // A mode as a table whose key is its name.
     Different(
         "name = \"store\"\n[raft-engine]\nrecovery-mode = { tolerate-any-corruption = {} }",
@@ -196,6 +196,12 @@ static DIFFERENT: [Different; 3] = [
         "name = \"store\"\nraft-engine = [\"a\", \"b\"]",
         "raft-engine",
         "spill-dir = \"b\"",
+    ),
+    // A date, which is a table with a key of its own.
+    Different(
+        "name = \"store\"\nraft-engine = 1979-05-27",
+        "raft-engine",
+        "target-file-size = \"128MB\"",
     ),
 ];
 
