@@ -1,4 +1,5 @@
-"""Kills a process that writes with syncs, some times, and finds each answered write again."""
+"""Kills a process that writes with syncs, some times, and finds each confirmed write again. Its log uses files again: what an
+opening cuts off then is stale."""
 import os
 import random
 import signal
@@ -19,11 +20,13 @@ def write(folder):
         i += 1
         log.write(raftlog.LogBatch().add_entries(1, [(last + i, b"%d" % (last + i))]).put(2, b"last", b"%d" % (last + i)), True)
         print(last + i, flush=True)
+        if i % 20 == 0:
+            log.must_rewrite_append_queue()
 
 
 def main(rounds):
     with tempfile.TemporaryDirectory() as folder:
-        path, answered = os.path.join(folder, "log"), 0
+        path, answered, cuts = os.path.join(folder, "log"), 0, 0
         for _ in range(rounds):
             child = subprocess.Popen([sys.executable, __file__, "write", path], stdout=subprocess.PIPE)
             first = child.stdout.readline()
@@ -33,12 +36,14 @@ def main(rounds):
             child.wait()
             answered = max([answered] + [int(line) for line in lines])
             with raftlog.Engine(path) as log:
+                assert all(cut.stale for cut in log.cuts()), log.cuts()
+                cuts += len(log.cuts())
                 last = log.last_index(1) or 0
                 assert last in (answered, answered + 1), (last, answered)
                 assert [e for e in log.fetch_entries(1, 1, last + 1)] == [(i, b"%d" % i) for i in range(1, last + 1)]
                 assert last == 0 or log.get(2, b"last") == b"%d" % last
                 answered = last
-        print("ok", answered)
+        print("ok", answered, cuts)
 
 
 if __name__ == "__main__":

@@ -96,6 +96,7 @@ const (
 	InUse      Code = 30
 	NotPlain   Code = 31
 	Folder     Code = 32
+	Lost       Code = 33
 )
 
 // An Error is a failure, with its text.

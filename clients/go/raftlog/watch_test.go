@@ -24,7 +24,7 @@ func makeEntries(t *testing.T) (folder, file string) {
 
 func TestWatch(t *testing.T) {
 	folder, _ := makeEntries(t)
-	files, err := filepath.Glob(filepath.Join(folder, "*"))
+	files, err := filepath.Glob(filepath.Join(folder, "*.r*"))
 	must(t, err)
 	size, last := uint64(0), uint64(0)
 	for _, file := range files {

@@ -35,7 +35,8 @@ def _load():
 
 _C = _load()
 INVALID, IO, TRY_AGAIN, GAP, COMPACTED, NO_ENTRY, FAILED, ABSENT, IN_USE, FOLDER = 1, 3, 4, 5, 7, 8, 11, 20, 30, 32
-CORRUPTION, NO_MEMORY, STALE_NUMBER, NOT_PLAIN = 2, 12, 18, 31
+CORRUPTION, NO_MEMORY, STALE_NUMBER, NOT_PLAIN, LOST = 2, 12, 18, 31, 33
+FILE_MISSING, FILE_STRAY, NOTE_STALE = 1, 2, 3
 _Watch = ctypes.CFUNCTYPE(None, c_void_p, c_uint64, c_uint64)
 
 
@@ -79,6 +80,13 @@ class _Cut(ctypes.Structure):
     _fields_ = [("path", c_char_p), ("offset", c_uint64), ("len", c_uint64), ("stale", c_bool)]
 
 
+Loss = collections.namedtuple("Loss", "kind is_rewrite first last")
+
+
+class _Lost(ctypes.Structure):
+    _fields_ = [("kind", c_int), ("is_rewrite", c_bool), ("first", c_uint64), ("last", c_uint64)]
+
+
 class _Bytes(ctypes.Structure):
     _fields_ = [("data", POINTER(c_uint8)), ("len", c_size_t), ("room", c_size_t)]
 
@@ -92,6 +100,9 @@ class _Bytes(ctypes.Structure):
 for _name, _result, _arguments in [
     ("bytes_free", None, [POINTER(_Bytes)]),
     ("open_watched", c_int, [c_char_p, c_char_p, _Watch, c_void_p, POINTER(c_void_p), c_char_p, c_size_t]),
+    ("open_whole", c_int, [c_char_p, c_char_p, POINTER(c_void_p), c_char_p, c_size_t]),
+    ("accept_missing", c_int, [c_char_p, c_char_p, c_size_t]),
+    ("missing", c_size_t, [c_void_p, POINTER(_Lost), c_size_t, c_size_t]),
     ("open_memory", c_int, [c_char_p, POINTER(c_void_p), c_char_p, c_size_t]),
     ("close", c_int, [c_void_p]),
     ("stats", c_int, [c_void_p, POINTER(Stats), c_size_t]),
@@ -141,6 +152,14 @@ def survive_bus_errors():
     code = _C.raftlog_survive_bus_errors()
     if code:
         raise Error(code, "")
+
+
+def accept_missing(folder):
+    """Accepts what is missing in a folder that nobody has open: `missing` no longer reports it."""
+    text = ctypes.create_string_buffer(512)
+    code = _C.raftlog_accept_missing(os.fsencode(folder), text, 512)
+    if code:
+        raise Error(code, text.value.decode(errors="replace"))
 
 
 def _number(number):
@@ -210,13 +229,19 @@ class Engine:
     Threads may share it, but for `close`: writers that come at once share a sync, and of these a read waits only for
     those that change its group (raftlog.h, "Rounds")."""
 
-    def __init__(self, folder=None, settings="", watch=None):
+    def __init__(self, folder=None, settings="", watch=None, whole=False):
+        """`whole`: the opening fails as LOST if a log file is missing or a stray; it takes no `watch`."""
+        if whole and watch:
+            raise ValueError("an opening takes whole or watch")
         text, self._log = ctypes.create_string_buffer(512), c_void_p()
+        out = settings.encode(), byref(self._log), text, 512
         if folder is None:
-            code = _C.raftlog_open_memory(settings.encode(), byref(self._log), text, 512)
+            code = _C.raftlog_open_memory(*out)
+        elif whole:
+            code = _C.raftlog_open_whole(os.fsencode(folder), *out)
         else:
             told = _Watch(lambda _, done, all_bytes: watch(done, all_bytes)) if watch else _Watch()
-            code = _C.raftlog_open_watched(os.fsencode(folder), settings.encode(), told, None, byref(self._log), text, 512)
+            code = _C.raftlog_open_watched(os.fsencode(folder), settings.encode(), told, None, *out[1:])
         if code:
             raise Error(code, text.value.decode(errors="replace"))
 
@@ -268,6 +293,17 @@ class Engine:
         found = (_Cut * count)()
         _C.raftlog_cuts(self._log, found, count, ctypes.sizeof(_Cut))
         return [Cut(os.fsdecode(cut.path), cut.offset, cut.len, cut.stale) for cut in found]
+
+    def missing(self):
+        """The log files that the opening found to be missing or strays, by the log's note of their numbers. A Loss has its
+        kind (FILE_MISSING, FILE_STRAY, or NOTE_STALE: not known), the queue, and the least and the greatest number. After a
+        crash or a kill there are none. Later openings report them too, until a purge or `accept_missing`."""
+        if not self._log:
+            raise Error(FAILED, "the log is closed")
+        count = _C.raftlog_missing(self._log, None, 0, 0)
+        found = (_Lost * count)()
+        _C.raftlog_missing(self._log, found, count, ctypes.sizeof(_Lost))
+        return [Loss(lost.kind, lost.is_rewrite, lost.first, lost.last) for lost in found]
 
     def expect_reads(self, at_random):
         """How entries will be read that are no longer in memory: in order, the default, with as much ahead as the disk's

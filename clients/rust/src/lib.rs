@@ -42,6 +42,7 @@ pub enum Code {
     InUse,
     NotPlain,
     Folder,
+    Lost,
     Other(i32),
 }
 
@@ -65,6 +66,7 @@ impl Code {
             30 => Code::InUse,
             31 => Code::NotPlain,
             32 => Code::Folder,
+            33 => Code::Lost,
             code => Code::Other(code),
         }
     }
@@ -80,6 +82,13 @@ pub struct Error {
 impl Error {
     fn invalid(message: &str) -> Error {
         Error { code: Code::Invalid, message: message.into() }
+    }
+
+    // A text of C's, which ends with a NUL, or that of the code if there is none.
+    fn told(code: c_int, text: &[u8]) -> Error {
+        let found = CStr::from_bytes_until_nul(text).map_or(String::new(), |t| t.to_string_lossy().into_owned());
+        let message = if found.is_empty() { code_text(code) } else { found };
+        Error { code: Code::of(code), message }
     }
 }
 
@@ -294,6 +303,52 @@ pub struct Stats {
 /// How many classes of times `Stats::sync_times` has.
 pub const SYNC_CLASSES: usize = sys::RAFTLOG_TIMES;
 
+/// What is known of log files of some numbers.
+#[derive(Clone, Copy, Debug, PartialEq, Eq)]
+#[non_exhaustive]
+pub enum LossKind {
+    /// They are needed and do not exist: what they contained is lost.
+    FileMissing,
+    /// One exists, and does not follow on the log's files.
+    FileStray,
+    /// Another program wrote to the log after its note: whether a file is missing isn't known.
+    NoteStale,
+    Other(i32),
+}
+
+impl LossKind {
+    fn of(kind: c_int) -> LossKind {
+        match kind {
+            1 => LossKind::FileMissing,
+            2 => LossKind::FileStray,
+            3 => LossKind::NoteStale,
+            kind => LossKind::Other(kind),
+        }
+    }
+}
+
+/// What an opening found by the log's note of its files' numbers.
+#[derive(Clone, Debug, PartialEq, Eq)]
+#[non_exhaustive]
+pub struct Loss {
+    pub kind: LossKind,
+    /// Whether the files are of the Rewrite queue, else of the Append queue.
+    pub is_rewrite: bool,
+    /// The least and the greatest number.
+    pub first: u64,
+    pub last: u64,
+}
+
+/// Accepts what is missing in a folder that nobody has open: `Engine::missing` no longer reports it.
+pub fn accept_missing(folder: impl AsRef<Path>) -> Result<()> {
+    let folder = path_text(folder.as_ref())?;
+    let mut text = [0u8; 512];
+    match unsafe { sys::raftlog_accept_missing(folder.as_ptr(), text.as_mut_ptr().cast(), text.len()) } {
+        OK => Ok(()),
+        code => Err(Error::told(code, &text)),
+    }
+}
+
 /// What an opening cut off a log file, after the last record that can be read.
 #[derive(Clone, Debug, PartialEq, Eq)]
 #[non_exhaustive]
@@ -377,6 +432,14 @@ impl Engine {
         engine
     }
 
+    /// As `open`, but fails as `Code::Lost` if a log file is missing or a stray. It has changed no log file then.
+    pub fn open_whole(folder: impl AsRef<Path>, settings: &str) -> Result<Engine> {
+        let folder = path_text(folder.as_ref())?;
+        Engine::opened(settings, |settings, out, text, room| unsafe {
+            sys::raftlog_open_whole(folder.as_ptr(), settings, out, text, room)
+        })
+    }
+
     /// A log in memory, for tests.
     pub fn open_memory(settings: &str) -> Result<Engine> {
         Engine::opened(settings, |settings, out, text, room| unsafe {
@@ -393,11 +456,7 @@ impl Engine {
         let mut text = [0u8; 512];
         match open(settings.as_ptr(), &mut log, text.as_mut_ptr().cast(), text.len()) {
             OK => Ok(Engine { log }),
-            code => {
-                let found = CStr::from_bytes_until_nul(&text).map_or(String::new(), |t| t.to_string_lossy().into_owned());
-                let message = if found.is_empty() { code_text(code) } else { found };
-                Err(Error { code: Code::of(code), message })
-            }
+            code => Err(Error::told(code, &text)),
         }
     }
 
@@ -492,6 +551,22 @@ impl Engine {
         unsafe { found.set_len(count) };
         let path_of = |cut: &sys::raftlog_cut| OsStr::from_bytes(unsafe { CStr::from_ptr(cut.path) }.to_bytes()).into();
         found.iter().map(|cut| Cut { path: path_of(cut), offset: cut.offset, len: cut.len, stale: cut.stale }).collect()
+    }
+
+    /// The log files that the opening found to be missing or strays. After a crash or a kill there are none. Later openings
+    /// report them too, until a purge makes them unneeded or `accept_missing` is called.
+    pub fn missing(&self) -> Vec<Loss> {
+        let count = unsafe { sys::raftlog_missing(self.log, ptr::null_mut(), 0, 0) };
+        let mut found = Vec::with_capacity(count);
+        unsafe { sys::raftlog_missing(self.log, found.as_mut_ptr(), count, size_of::<sys::raftlog_lost>()) };
+        unsafe { found.set_len(count) };
+        let loss_of = |it: &sys::raftlog_lost| Loss {
+            kind: LossKind::of(it.kind),
+            is_rewrite: it.is_rewrite,
+            first: it.first,
+            last: it.last,
+        };
+        found.iter().map(loss_of).collect()
     }
 
     /// How entries will be read that are no longer in memory: in order, the default, with as much ahead as the disk's

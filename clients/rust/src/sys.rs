@@ -56,6 +56,14 @@ pub struct raftlog_cut {
     pub stale: bool,
 }
 
+#[repr(C)]
+pub struct raftlog_lost {
+    pub kind: c_int,
+    pub is_rewrite: bool,
+    pub first: u64,
+    pub last: u64,
+}
+
 pub type raftlog_progress = unsafe extern "C" fn(with: *mut c_void, done: u64, all: u64);
 
 extern "C" {
@@ -70,6 +78,9 @@ extern "C" {
         text: *mut c_char,
         room: usize,
     ) -> c_int;
+    pub fn raftlog_open_whole(folder: *const c_char, settings: *const c_char, out: *mut *mut raftlog, text: *mut c_char, room: usize) -> c_int;
+    pub fn raftlog_accept_missing(folder: *const c_char, text: *mut c_char, room: usize) -> c_int;
+    pub fn raftlog_missing(log: *mut raftlog, lost: *mut raftlog_lost, room: usize, size: usize) -> usize;
     pub fn raftlog_open_memory(settings: *const c_char, out: *mut *mut raftlog, text: *mut c_char, room: usize) -> c_int;
     pub fn raftlog_close(log: *mut raftlog) -> c_int;
     pub fn raftlog_stats(log: *mut raftlog, counts: *mut raftlog_counts, size: usize) -> c_int;

@@ -1,4 +1,4 @@
-use raftlog::{Code, Engine, LogBatch};
+use raftlog::{Code, Engine, LogBatch, LossKind};
 use std::io::Write;
 use std::sync::Arc;
 
@@ -128,7 +128,9 @@ fn make_entries(folder: &std::path::Path) -> std::path::PathBuf {
 fn watched_opening() {
     let folder = folder("watched");
     make_entries(&folder);
-    let size = std::fs::read_dir(&folder).unwrap().map(|file| file.unwrap().metadata().unwrap().len()).sum();
+    let files = std::fs::read_dir(&folder).unwrap().map(|file| file.unwrap());
+    let is_log = |file: &std::fs::DirEntry| file.path().extension().is_some();
+    let size = files.filter(is_log).map(|file| file.metadata().unwrap().len()).sum();
     let mut told = Vec::new();
     let log = Engine::open_watched(&folder, "", |done, all| told.push((done, all))).unwrap();
     assert!(told.windows(2).all(|it| it[0] <= it[1]) && told.last() == Some(&(size, size)), "{told:?}");
@@ -181,6 +183,32 @@ fn cuts_that_are_stale() {
     assert_eq!(cuts.iter().map(|cut| cut.stale).collect::<Vec<_>>(), [true]);
     std::fs::remove_dir_all(folder).unwrap();
     std::fs::remove_dir_all(copy).unwrap();
+}
+
+/// A log file that was deleted is reported by each opening until that is accepted.
+#[test]
+fn files_that_are_missing() {
+    let folder = folder("missing");
+    let settings = "target-file-size = \"4KB\"\npurge-threshold = \"1GB\"";
+    let log = Engine::open_whole(&folder, settings).unwrap();
+    let mut batch = LogBatch::new();
+    for i in 0..60u8 {
+        batch.put(1, &[i], &[0; 500]);
+        log.write(&mut batch, true).unwrap();
+    }
+    assert_eq!(log.missing(), []);
+    log.close().unwrap();
+    std::fs::remove_file(folder.join("0000000000000003.raftlog")).unwrap();
+    assert_eq!(Engine::open_whole(&folder, settings).unwrap_err().code, Code::Lost);
+    for _ in 0..2 {
+        let losses = Engine::open(&folder, settings).unwrap().missing();
+        let told: Vec<_> = losses.iter().map(|it| (it.kind, it.is_rewrite, it.first, it.last)).collect();
+        assert_eq!(told, [(LossKind::FileMissing, false, 3, 3)]);
+    }
+    raftlog::accept_missing(&folder).unwrap();
+    assert_eq!(Engine::open_whole(&folder, settings).unwrap().missing(), []);
+    assert_eq!(raftlog::accept_missing("").unwrap_err().code, Code::Invalid);
+    std::fs::remove_dir_all(folder).unwrap();
 }
 
 /// A file that is cut behind an open log.
