@@ -284,7 +284,7 @@ class Tests:
         if not os.path.isdir(folder):
             return [0] * run.threads
         ran = self.run(folder, "verify", run.count, SIZE, *run.words)
-        found = [int(it) for it in re.findall(r"standing (\d+)", ran.stdout)]
+        found = [int(it) for it in re.findall(r"(?:standing|present) (\d+)", ran.stdout)]
         if ran.returncode != 0 or len(found) != run.threads:
             return f"status {ran.returncode}: {ran.stdout.split()} {ran.stderr.strip()}"
         return found
@@ -430,6 +430,23 @@ class Tests:
             shutil.rmtree(folder, ignore_errors=True)
         return turns, bad
 
+    def kill_each_call(self, run, words, step):
+        """The program is killed at its Nth file call: the note reports nothing, and what was answered is there."""
+        bad = tried = 0
+        for number in range(1, 10**6, step):
+            folder = os.path.join(self.work, "killed-at")
+            ran = self.run(folder, *words, *run.words, KILL=str(number))
+            if ran.returncode == 0:
+                return tried, bad
+            tried += 1
+            wrong = self.wrong_with(folder, answers(ran.stdout), run) if os.path.isdir(folder) else None
+            if ran.returncode != -signal.SIGKILL:
+                wrong = f"status {ran.returncode}: {ran.stderr}"
+            if wrong:
+                bad += 1
+                print(f"{run.name}: killed at call {number}: {wrong}")
+            shutil.rmtree(folder, ignore_errors=True)
+
     def refuse_each(self):
         """What an opening has to refuse, with the words that say why, and what it passes over."""
         work = os.path.join(self.work, "refused")
@@ -545,6 +562,9 @@ def main():
             good = tests.told(name, tests.fail_each(run, words, kinds)) and good
         good = tests.told("kills", tests.kill_each(plain, load(60, 2), 12)) and good
         good = tests.told("kills, recycled files", tests.kill_each(recycled, recycling, 40)) and good
+        short = load(45, 9, "--purge-each", 10)
+        good = tests.told("kills at each call", tests.kill_each_call(RUNS[1], short, given.step)) and good
+        good = tests.told("kills at each call, recycled files", tests.kill_each_call(recycled, short, given.step)) and good
         for run in many:
             killed = Run(f"killed {run.name}", [], run.settings, count=300, threads=run.threads)
             tests.prepare(killed)
