@@ -284,7 +284,7 @@ class Tests:
         if not os.path.isdir(folder):
             return [0] * run.threads
         ran = self.run(folder, "verify", run.count, SIZE, *run.words)
-        found = [int(it) for it in re.findall(r"standing (\d+)", ran.stdout)]
+        found = [int(it) for it in re.findall(r"present (\d+)", ran.stdout)]
         if ran.returncode != 0 or len(found) != run.threads:
             return f"status {ran.returncode}: {ran.stdout.split()} {ran.stderr.strip()}"
         return found
