@@ -144,7 +144,7 @@ static int verify_group(raftlog *log, const struct words *words, uint64_t group)
     }
     free(value);
     raftlog_bytes_free(&found);
-    printf("standing %llu\nother %llu\n", (unsigned long long)standing, (unsigned long long)other);
+    printf("present %llu\ndifferent %llu\n", (unsigned long long)standing, (unsigned long long)other);
     return code == RAFTLOG_ABSENT ? 0 : code ? code : other ? RAFTLOG_CORRUPTION : 0;
 }
 
