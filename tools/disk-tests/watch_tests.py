@@ -188,7 +188,7 @@ class Tests:
                     break
             self.expect("a picture ends", watch.wait() == 0)
         pictures = told.decode().split("\x1b[H")[1:]
-        self.expect(f"{len(pictures)} pictures", len(pictures) == 2 and pictures[1].count("group") == 10)
+        self.expect(f"{len(pictures)} pictures", len(pictures) == 2 and pictures[1].count("\ngroup") == 10)
         for picture in pictures:
             rows = picture.replace("\x1b[K", "").replace("\x1b[J", "").split("\r\n")
             self.expect(f"rows {rows}", len(rows) <= 24 and all(len(row) <= 80 and row.isprintable() for row in rows))
