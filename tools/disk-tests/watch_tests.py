@@ -174,11 +174,13 @@ class Tests:
 
     def drawn(self):
         """The picture on a terminal fits into 24 rows of 80 signs, and is drawn again."""
-        folder = self.place("plain")
+        folder = self.place("groups")
         inside, outside = pty.openpty()
         with subprocess.Popen([self.program, folder, "watch", "--count", "2"], stdout=outside) as watch:
             os.close(outside)
-            told = b""
+            lines = "".join(f"{group}\tvalue\n" for group in range(50)).encode()
+            told = os.read(inside, 65536)
+            self.run(folder, "append", "each", "--lines", "-", "--wait", 9, "--settings", self.small, input=lines)
             while select.select([inside], [], [], 30)[0]:
                 try:
                     told += os.read(inside, 65536)
@@ -186,7 +188,7 @@ class Tests:
                     break
             self.expect("a picture ends", watch.wait() == 0)
         pictures = told.decode().split("\x1b[H")[1:]
-        self.expect(f"{len(pictures)} pictures", len(pictures) == 2)
+        self.expect(f"{len(pictures)} pictures", len(pictures) == 2 and pictures[1].count("\ngroup") == 10)
         for picture in pictures:
             rows = picture.replace("\x1b[K", "").replace("\x1b[J", "").split("\r\n")
             self.expect(f"rows {rows}", len(rows) <= 24 and all(len(row) <= 80 and row.isprintable() for row in rows))

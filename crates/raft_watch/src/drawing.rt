@@ -13,8 +13,8 @@ const WIDTH: usize = 79;
 /// How many looks the row of written bytes shows.
 const HISTORY: usize = 60;
 
-/// How many files of a queue have a bar: the last ones.
-const FILES: usize = 5;
+/// How many files of a queue have a bar: the last ones. With ten groups the picture has 23 rows.
+const FILES: usize = 2;
 
 /// Signs from the lowest to the highest.
 const LEVELS: [char; 8] = ['.', ':', '-', '=', '+', '*', '#', '@'];
