@@ -36,7 +36,7 @@ use Rattle.raft_world.specs.Call.{Closes, Ends, GivesUp, HasEffect, Reopens}
 use Rattle.raft_world.proofs.Below.{CrashLaws, LeftIsRead}
 use Rattle.raft_world.proofs.RefusalLemmas.{no_log_detectable, refused_outside}
 use Rattle.raft_world.proofs.SoundLemmas.{openable_is_sound, read_as_it_is}
-use Rattle.raft_world.proofs.UntouchedLemmas.{contents_stay, still_openable, still_recovers}
+use Rattle.raft_world.proofs.UntouchedLemmas.{contents_stay, readable_stays, still_openable, still_recovers}
 use Rattle.raft_config.proofs.ConfigLemmas.{no_contradiction}
 use Rattle.raft_world.specs.Ledger.{Effect, MayRecover, Ledger, MayFind, after_effect, all_durable, interrupted, durable_contents, accepted_contents, after_crash, starts_with}
 use Rattle.raft_world.specs.Happens.{AreDetectable, FindsOnly, Happens, HasCrashed, HasOpened, Holds, IsAfterCrash, IsMoment, IsMomentOfOpening, IsTolerant, LeavesLog, Node, Running, Inside, Down, Begins, BeginsWith, Opened, OpeningFailed, Called, Failed, Rested, Closed, Reopened, GivenUp, Restarted, Untouched, InsideCall, InsideClose, InsideOpening, Crashed, files_of}
@@ -449,5 +449,6 @@ module _ {F H R W : Type 0} (g : Ghosts F H R W) (folders : Folders) where
     first_read read l n after keeps fallen = ∥∥₁_map (keeps.leaves fallen.left fallen.leaves).first (λ (rewritten, appended, first, next, may).
         (rewritten, appended, first.0, next.0, read Rewrite folders n after fallen.left fallen.restarted ∙ first.1, read Append folders n after fallen.left fallen.restarted ∙ next.1, keeps.allowed (recovered rewritten appended) may))
 
-    pub kept_read_first : LeftIsRead → (first : Ledger) (node : Node g) (l : Ledger) → Happens g folders first node l → (after : Directory) → IsAfterCrash (files_of g node) after → ReadsFirst (MayFind l) folders after
-    kept_read_first read first node l happened after fallen = ∥∥₁_elim (leaving node l (keeps_all first node l happened)) ∥∥₁_prop (λ k. first_read read l (files_of g node) after k fallen)
+    pub kept_read_first : LeftIsRead → (first : Ledger) (node : Node g) (l : Ledger) → Happens g folders first node l → (after later : Directory) → IsAfterCrash (files_of g node) after → LeavesLog folders after later → ReadsFirst (MayFind l) folders later
+    kept_read_first read first node l happened after later fallen same = ∥∥₁_elim (leaving node l (keeps_all first node l happened)) ∥∥₁_prop (λ k. ∥∥₁_map (first_read read l (files_of g node) after k fallen) (λ (rewritten, appended, rest, more, of_rewrite, of_append, may).
+        (rewritten, appended, rest, more, readable_stays folders after later same Rewrite ∙ of_rewrite, readable_stays folders after later same Append ∙ of_append, may)))

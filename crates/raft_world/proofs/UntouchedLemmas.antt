@@ -46,7 +46,7 @@ module _ (folders : Folders) (old n : Directory) (same : LeavesLog folders old n
       ap (λ bytes. readable_batches (in_queue queue f.0) bytes ++ readable_of queue n files) (bytes_stay queue f kept.0)
       ∙ ap (λ rest. readable_batches (in_queue queue f.0) (bytes_at f.1 old) ++ rest) (batches_stay queue files kept.1)
 
-  readable_stays : (queue : LogQueue) → readable_queue queue folders n ≡ readable_queue queue folders old
+  pub readable_stays : (queue : LogQueue) → readable_queue queue folders n ≡ readable_queue queue folders old
   readable_stays queue = ap (readable_of queue n) (kept_stay queue) ∙ batches_stay queue (log_files_of queue folders old) (kept_all queue old (all_of folders))
 
   pub contents_stay : contents_at folders n ≡ contents_at folders old

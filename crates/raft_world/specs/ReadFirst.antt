@@ -9,7 +9,7 @@ use Rattle.raft_config.specs.Folders.{Folders}
 use Rattle.raft_pipes.specs.Folder.{readable_queue}
 use Rattle.raft_recovery_laws.specs.Recovered.{recovered}
 use Rattle.raft_world.specs.Ledger.{Ledger, MayFind}
-use Rattle.raft_world.specs.Happens.{Happens, IsAfterCrash, Node, files_of}
+use Rattle.raft_world.specs.Happens.{Happens, IsAfterCrash, LeavesLog, Node, files_of}
 
 -- the batches that are read first of both queues make contents with P; more batches may follow them
 abbrev pub ReadsFirst : (Contents → Type 0) → Folders → Directory → Type 0
@@ -19,8 +19,9 @@ ReadsFirst P folders n = ∥ ((rewritten appended later more : List Batch)
     × P (recovered rewritten appended)) ∥₁
 
 -- what is read first after a crash with any damage is what an opening may find: of a node between
--- two calls, inside a call, a close or an opening, or down
+-- two calls, inside a call, a close or an opening, or down; perhaps without the reserved files
 abbrev pub WhatIsKeptIsReadFirst : {F H R W : Type 0} → Ghosts F H R W → Type 0
 WhatIsKeptIsReadFirst g = (folders : Folders) (first : Ledger) (node : Node g) (l : Ledger)
-    → Happens g folders first node l → (after : Directory)
-    → IsAfterCrash (files_of g node) after → ReadsFirst (MayFind l) folders after
+    → Happens g folders first node l → (after later : Directory)
+    → IsAfterCrash (files_of g node) after → LeavesLog folders after later
+    → ReadsFirst (MayFind l) folders later
