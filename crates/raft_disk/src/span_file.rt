@@ -44,18 +44,22 @@ impl SpanFile {
         }
     }
 
-    /// Reads the note of a folder, after it was synced.
+    /// Reads the note of a folder, after it was synced. A note that cannot be read is removed; if
+    /// that fails too, none is written.
     pub(crate) fn open(rt: &HostRuntime, root: &Root) -> io::Result<SpanFile> {
         let mut found = SpanFile::new(rt.alloc());
         let place = root.place(rt.alloc(), SPANS)?;
-        let metadata = match fs::symlink_metadata(rt, place.as_str()) {
-            Ok(metadata) => metadata,
+        match fs::symlink_metadata(rt, place.as_str()) {
+            Ok(metadata) if metadata.is_file() && metadata.nlink() == 1 => {}
             Err(e) if e.kind() == ErrorKind::NotFound => return Ok(found),
-            Err(e) => return Err(e),
-        };
-        found.is_silent = !metadata.is_file() || metadata.nlink() != 1;
-        if !found.is_silent {
-            found.read(rt, place.as_str())?;
+            _ => {
+                found.is_silent = true;
+                return Ok(found);
+            }
+        }
+        if found.read(rt, place.as_str()).is_err() {
+            found = SpanFile::new(rt.alloc());
+            found.is_silent = remove_note(rt, root).is_err();
         }
         Ok(found)
     }

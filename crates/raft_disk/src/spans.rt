@@ -206,22 +206,29 @@ impl Span {
         true
     }
 
-    /// Notes that a file will get another name; returns whether that changed the span.
+    /// Notes that a file will get another name or be deleted; returns whether that changed the span.
+    /// A purge takes the first files; only an empty last file is taken from the end.
     pub(crate) fn leave(&mut self, number: u64) -> bool {
-        if number < self.first {
+        if number < self.first || self.last < number {
             return false;
         }
-        self.first = number.saturating_add(1);
-        self.last = self.last.max(number);
+        if self.first == self.last {
+            *self = Span::EMPTY;
+        } else if number == self.last {
+            self.last = number.saturating_sub(1);
+        } else {
+            self.first = number.saturating_add(1);
+        }
         true
     }
 
     /// Notes that a file will be deleted; returns whether the note on the disk does not allow for
     /// that. If files are deleted one after the other, it allows for all after the first one.
     pub(crate) fn delete(&mut self, number: u64) -> bool {
-        let is_next = self.is_dropping && number == self.first;
+        let first = self.first;
+        let is_next = self.is_dropping && number == first;
         let is_changed = self.leave(number);
-        self.is_dropping = self.is_dropping || is_changed;
+        self.is_dropping = self.is_dropping || first < self.first;
         is_changed && !is_next
     }
 }
