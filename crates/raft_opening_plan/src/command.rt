@@ -45,12 +45,12 @@ impl Planner<'_> {
         )
     }
 
-    /// Gives a path of the system another name, in the same folder.
+    /// Gives a path of the system another name in the same folder, if that does not exist.
     pub fn move_place(&self, place: &str, ending: &str) -> Result<String, AllocError> {
         let from = quoted(self.alloc, place)?;
         let to = format!(in self.alloc; "{place}.{ending}")?;
         let to = quoted(self.alloc, to.as_str())?;
-        format!(in self.alloc; "mv {from} {to}")
+        format!(in self.alloc; "mv -n {from} {to}")
     }
 
     /// Lets the owner of a path read and write it.
@@ -64,15 +64,7 @@ impl Planner<'_> {
         let copy = format!(in self.alloc; "{place}.copy")?;
         let copy = quoted(self.alloc, copy.as_str())?;
         let place = quoted(self.alloc, place)?;
-        format!(in self.alloc; "cp -p {place} {copy} && mv {copy} {place}")
-    }
-
-    /// Moves a folder out of the log's.
-    pub(crate) fn move_out(&self, below: &str) -> Result<String, AllocError> {
-        let from = format!(in self.alloc; "{}/{below}", self.front())?;
-        let from = quoted(self.alloc, from.as_str())?;
-        let to = self.beside(below)?;
-        format!(in self.alloc; "mv {from} {to}")
+        format!(in self.alloc; "test ! -e {copy} && cp -p {place} {copy} && mv {copy} {place}")
     }
 
     /// The option for a second folder.

@@ -17,23 +17,17 @@ impl Planner<'_> {
         bytes: u64,
         doubled: Option<FileId>,
     ) -> Result<Item, AllocError> {
-        let (cause, mend) = match doubled {
-            Some(id) => (
-                format!(in self.alloc;
-                    "number {} of queue {} is there too: which of both folders has the log cannot \
-                    be known",
-                    id.seq,
-                    queue_name(id.queue)
-                )?,
-                self.move_out(folder)?,
-            ),
-            None => (
-                String::from_str(
-                    self.alloc,
-                    "its files continue the numbers of those that are read",
-                )?,
-                self.spill_option(folder)?,
-            ),
+        let cause = match doubled {
+            Some(id) => format!(in self.alloc;
+                "number {} of queue {} is there too: which of both folders has the log cannot be \
+                known",
+                id.seq,
+                queue_name(id.queue)
+            )?,
+            None => String::from_str(
+                self.alloc,
+                "its files continue the numbers of those that are read",
+            )?,
         };
         Ok(Item {
             kind: Kind::Folder,
@@ -42,7 +36,7 @@ impl Planner<'_> {
             at: 0,
             bytes,
             cause,
-            mend,
+            mend: self.spill_option(folder)?,
         })
     }
 

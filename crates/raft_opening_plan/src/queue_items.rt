@@ -255,12 +255,8 @@ impl Planner<'_> {
         plan: &mut Plan,
     ) -> Result<(), AllocError> {
         let name = queue_name(queue);
+        let mend = self.mend_of_missing(spill, plan)?;
         for (first, last) in &known.missing {
-            let mend = if spill.is_empty() || self.spill.is_some() {
-                self.raftctl("repair --cut")?
-            } else {
-                self.spill_option(spill)?
-            };
             plan.items.push(Item {
                 kind: Kind::Missing,
                 path: String::from_str(self.alloc, name)?,
@@ -272,10 +268,26 @@ impl Planner<'_> {
                     or in a folder that is not read: restore the files",
                     known.first, known.last
                 )?,
-                mend,
+                mend: mend.clone()?,
             })?;
         }
         Ok(())
+    }
+
+    // A folder that is left out may have them. Without another file of the queue they are not to be
+    // forgotten.
+    fn mend_of_missing(&self, spill: &str, plan: &Plan) -> Result<String, AllocError> {
+        for item in &plan.items {
+            match item.kind {
+                Kind::Folder => return item.mend.clone(),
+                Kind::Queue => return Ok(String::new(self.alloc)),
+                _ => {}
+            }
+        }
+        if spill.is_empty() || self.spill.is_some() {
+            return self.raftctl("repair --cut");
+        }
+        self.spill_option(spill)
     }
 }
 
