@@ -412,6 +412,7 @@ def main():
         tests.gone_queue()
         tests.table()
         tests.plans()
+        tests.mends_keep()
         tests.noted()
         tests.gap_without_note()
         tests.killed_first()

@@ -63,8 +63,9 @@ class Plans:
             ("passed", self.with_gap, 6, 7, True),
             ("stray", self.with_stray, 6, 7, True),
             ("left-out", self.with_folder, 6, 7, "option"),
-            ("left-out", self.with_other_folder, 6, 7, True),
+            ("left-out", self.with_other_folder, 6, 7, "option"),
             ("gone", self.without_append, 6, 7, False),
+            ("gone", self.without_append_and_note, 6, 7, False),
             ("gone", self.without_rewrite, 6, 7, False),
             ("reserved", self.with_reserved, 0, 0, False),
         ]:
@@ -103,7 +104,8 @@ class Plans:
             ran = self.run(folder, "put", "1", "a", "b", *words)
             self.expect(f"{case}: a put: {ran.returncode} {ran.stderr}", ran.returncode == change)
             self.expect(f"{case}: it prints the plan: {ran.stderr}", set(wanted) <= set(lines_of(ran.stderr)))
-            self.expect(f"{case}: it changes nothing", state_of(folder).keys() == before.keys())
+            added = {os.path.basename(path) for path in state_of(folder).keys() ^ before.keys()}
+            self.expect(f"{case}: it changes nothing but the note: {added}", added <= {"SPANS"})
             ran = self.run(folder, "put", "1", "a", "b", "--json", *words)
             objects = [json.loads(line) for line in ran.stderr.splitlines()]
             self.expect(f"{case}: --json alone: {objects}", kind in [each.get("plan") for each in objects])
@@ -116,16 +118,49 @@ class Plans:
             if not mends:
                 self.expect(f"{folder}: no command: {command}", command == "none")
             elif mends == "option":
-                ran = self.run(folder, "check", *shlex.split(command))
+                more = shlex.split(command)
+                if b"plan doubled" in self.run(folder, "check", *more).stdout:
+                    self.is_mended(folder, more, "doubled", True)
+                ran = self.run(folder, "check", *more)
                 self.expect(f"{folder}: check {command}: {ran.stdout}", ran.returncode == 0)
+                ran = self.run(folder, "get", 1, 5, *more)
+                self.expect(f"{folder}: its keys are there: {ran.stderr}", ran.returncode == 0)
             else:
-                path = os.path.join(self.work, "bin") + os.pathsep + os.environ["PATH"]
-                ran = subprocess.run(["bash", "-c", command], capture_output=True, env={**os.environ, "PATH": path}, timeout=60)
+                ran = self.typed(command)
                 self.expect(f"{folder}: {command}: {ran.returncode} {ran.stderr}", ran.returncode in (0, 4))
         if mends and mends != "option":
             mended = f"{folder}.saved" if mends == "saved" else folder
             ran = self.run(mended, "check", *words)
             self.expect(f"{mended}: mended: {ran.stdout}", ran.returncode == 0)
+
+    def typed(self, command):
+        """A command as a user types it."""
+        path = os.path.join(self.work, "bin") + os.pathsep + os.environ["PATH"]
+        return subprocess.run(["bash", "-c", command], capture_output=True, env={**os.environ, "PATH": path}, timeout=60)
+
+    def mends_keep(self):
+        """No command after `mend` replaces what an earlier one kept, or forgets what another one brings back."""
+        folder = self.with_stray(os.path.join(self.work, "kept-stray"))
+        stray = os.path.join(folder, name_of(9))
+        with open(stray + ".stray", "wb") as file:
+            file.write(b"kept before")
+        for line in lines_of(self.run(folder, "check").stdout):
+            self.typed(LINE.fullmatch(line)[9])
+        kept = (bytes_of(stray), bytes_of(stray + ".stray"))
+        self.expect(f"a second mv replaces nothing: {kept}", kept == (b"hello", b"kept before"))
+        folder = self.with_second_name(os.path.join(self.work, "kept-copy"))
+        path = os.path.join(folder, name_of(1))
+        with open(path + ".copy", "wb") as file:
+            file.write(b"kept before")
+        whole = bytes_of(path)
+        for line in lines_of(self.run(folder, "check").stdout):
+            self.typed(LINE.fullmatch(line)[9])
+        self.expect("a second copy replaces nothing", (bytes_of(path), bytes_of(path + ".copy")) == (whole, b"kept before"))
+        for make, mend in ((self.with_folder, "--spill second"), (self.without_append, "none")):
+            folder = make(os.path.join(self.work, f"forgets-{make.__name__}"))
+            found = [LINE.fullmatch(line) for line in lines_of(self.run(folder, "check").stdout)]
+            mends = {each[9] for each in found if each[1] == "missing"}
+            self.expect(f"{folder}: what is missing is not forgotten: {mends}", mends == {mend})
 
     def with_tail(self, folder):
         self.run(folder, "load", 60, 40)
@@ -202,6 +237,11 @@ class Plans:
         for name in logs_in(folder):
             if name.endswith(".raftlog"):
                 os.unlink(os.path.join(folder, name))
+        return folder
+
+    def without_append_and_note(self, folder):
+        folder = self.without_append(folder)
+        self.without_note(folder)
         return folder
 
     def without_rewrite(self, folder):
