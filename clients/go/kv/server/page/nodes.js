@@ -25,7 +25,9 @@ async function ask(url) {
   try {
     const response = await fetch(url, { cache: "no-store", signal: gone.signal });
     if (!response.ok) throw new Error(`status ${response.status}`);
-    return await response.json();
+    const report = await response.json();
+    if (!Array.isArray(report?.groups)) throw new Error("no report of a node");
+    return report;
   } finally {
     clearTimeout(timer);
   }
