@@ -10,14 +10,16 @@ const byId = (id) => document.getElementById(id);
 const count = (number) => Math.round(number).toLocaleString("en");
 const several = (number, word) => `${count(number)} ${word}${number === 1 ? "" : "s"}`;
 
-function time(seconds) {
+function time(given) {
+  const seconds = Number(given);
   if (!seconds) return "0";
   if (seconds < 1e-3) return `${(seconds * 1e6).toPrecision(3)} µs`;
   return seconds < 1 ? `${(seconds * 1e3).toPrecision(3)} ms` : `${seconds.toPrecision(3)} s`;
 }
 
-function size(bytes) {
+function size(given) {
   const units = ["B", "KB", "MB", "GB", "TB"];
+  let bytes = Number(given);
   let unit = 0;
   for (; bytes >= 1000 && unit < units.length - 1; unit++) bytes /= 1000;
   return `${unit ? bytes.toPrecision(3) : bytes} ${units[unit]}`;
@@ -201,7 +203,11 @@ async function run() {
   const nodes = await findNodes();
   for (;;) {
     await Promise.all(nodes.map((node) => node.poll()));
-    draw(nodes);
+    try {
+      draw(nodes);
+    } catch (error) {
+      byId("summary").textContent = `A node's answer cannot be drawn: ${error.message}`;
+    }
     await pause(EVERY);
   }
 }
