@@ -71,7 +71,7 @@ static int fail_at(const char *folder) {
     atomic_store(&faults_left, turn);
     int code = raftlog_open(folder, "target-file-size = \"4KB\"", &log, text, sizeof text),
         closed = 0;
-    if (code) CHECK((code == RAFTLOG_FOLDER || code == RAFTLOG_IO) && *text);
+    if (code) CHECK((code == RAFTLOG_FOLDER || code == RAFTLOG_IO) && *text && !faults_of_note);
     else {
         answered = calls(log, &code);
         if (code) {

@@ -2,6 +2,7 @@
  * Files that someone takes away, or puts there, are reported until they are accepted. */
 #include "faults.h"
 #include "keys.h"
+#include "parts.h"
 
 #include <errno.h>
 #include <signal.h>
@@ -12,8 +13,11 @@
 #define RECYCLING SMALL_FILES
 #define DELETING SMALL_FILES "enable-log-recycle = false\n"
 #define SPILLED SMALL_FILES "spill-dir = \"spill\"\n"
+#define COMMENTED DELETING "  # spill-dir = \"other\"\n"
+/* A form that the library doesn't know. */
+#define INDENTED DELETING "  spill-dir = \"spill\"\n"
 
-enum { MANY = 40, FEW = 12, ROOM = 8 };
+enum { MANY = 40, FEW = 12, ROOM = 8, PATIENCE = 20, NOBODY = 65534 };
 
 static const char *folder;
 
@@ -194,6 +198,176 @@ static void is_broken(void) {
     CHECK(!rmdir(name) && lost_in(DELETING, NULL) == 0);
 }
 
+/* Whether the folder has a note. */
+static bool is_noted(void) {
+    char name[TEXT_ROOM];
+    snprintf(name, sizeof name, "%s/SPANS", folder);
+    return !access(name, F_OK);
+}
+
+/* The status of a child that does this. */
+static void in_child(void (*does)(uint64_t), uint64_t number) {
+    int status;
+    fflush(stdout);
+    pid_t child = fork();
+    CHECK(child >= 0);
+    if (!child) {
+        does(number);
+        fflush(stdout);
+        _exit(0);
+    }
+    CHECK(waitpid(child, &status, 0) == child && status == 0);
+}
+
+/* The process ends right after it deleted a file, as an order to delete does it. */
+static void delete(uint64_t number) {
+    char path[TEXT_ROOM];
+    raftlog *log = open_with(folder, DELETING);
+    snprintf(path, sizeof path, "%016llu.raftlog", (unsigned long long)number);
+    CHECK(parts_leave_span(log, path) == 0);
+    take_away(number);
+}
+
+/* The last file is deleted. A file that is missing then is reported. If there was one file alone, nothing is needed. */
+static void delete_last(void) {
+    raftlog_lost lost[ROOM];
+    uint64_t first, last, after;
+    empty();
+    work(DELETING);
+    find(&first, &last);
+    in_child(delete, last);
+    CHECK(lost_in(DELETING, NULL) == 0);
+    find(&first, &after);
+    CHECK(after > first + 1 && after <= last);
+    take_away(first + 1);
+    CHECK(lost_in(DELETING, lost) == 1 && is_lost(lost, RAFTLOG_FILE_MISSING, first + 1, first + 1));
+
+    empty();
+    CHECK(lost_in(DELETING, NULL) == 0 && has_file(1) && !has_file(2));
+    in_child(delete, 1);
+    CHECK(lost_in(DELETING, NULL) == 0 && has_file(1) && is_noted());
+    take_away(1);
+    CHECK(lost_in(DELETING, lost) == 1 && is_lost(lost, RAFTLOG_FILE_MISSING, 1, 1));
+}
+
+/* No failed call on the note fails an opening. */
+static void note_fails(void) {
+    raftlog *log;
+    char text[TEXT_ROOM];
+    int of_note = 0;
+    empty();
+    work(DELETING);
+    for (int call = 1, left = 0; !left; call++) {
+        faults_of_note = false;
+        atomic_store(&faults_left, call);
+        int code = raftlog_open(folder, DELETING, &log, text, sizeof text);
+        left = atomic_load(&faults_left);
+        atomic_store(&faults_left, 0);
+        CHECK(!faults_of_note || code == 0);
+        of_note += faults_of_note;
+        if (!code) CHECK(raftlog_close(log) == 0);
+        CHECK(lost_in(DELETING, NULL) == 0);
+    }
+    faults_of_note = false;
+    CHECK(of_note > 0);
+}
+
+static void open_as_nobody(uint64_t put) {
+    CHECK(!setgid(NOBODY) && !setuid(NOBODY));
+    raftlog *log = open_with(folder, DELETING);
+    CHECK(raftlog_missing(log, NULL, 0, 0) == 0);
+    CHECK(put_key(log, 'o', (int)put) == 0 && raftlog_must_rewrite_append_queue(log, NULL) == 0);
+    CHECK(raftlog_close(log) == 0);
+}
+
+/* The note is another user's: it is removed, if the folder allows that. */
+static void of_another(void) {
+    const char *own = folder;
+    char place[] = "/dev/shm/noted-XXXXXX";
+    struct stat is;
+    if (geteuid()) {
+        puts("not root: a note of another user is left out");
+        return;
+    }
+    CHECK(mkdtemp(place));
+    folder = place;
+    for (int is_kept = 0; is_kept < 2; is_kept++) {
+        char note[TEXT_ROOM];
+        work(DELETING);
+        snprintf(note, sizeof note, "%s/SPANS", folder);
+        run("chown -R 65534:65534 '%s' && chown 0:0 '%s'", folder, note);
+        CHECK(!chmod(note, is_kept ? 0600 : 0444));
+        if (is_kept) CHECK(!chown(folder, 0, 0) && !chmod(folder, 01777));
+        in_child(open_as_nobody, 1);
+        in_child(open_as_nobody, 2);
+        CHECK(!stat(note, &is) && is.st_uid == (is_kept ? 0 : NOBODY));
+        CHECK(count_in(folder, DELETING, 'o', 3) == 2);
+        empty();
+    }
+    run("rm -rf '%s'", folder, folder);
+    folder = own;
+}
+
+static atomic_int accepted;
+
+static void *accept_cancelled(void *with) {
+    char text[TEXT_ROOM];
+    pthread_cancel(pthread_self());
+    atomic_store(&accepted, raftlog_accept_missing(with, text, sizeof text));
+    pthread_testcancel();
+    return NULL;
+}
+
+/* A thread that is cancelled accepts a loss, or fails to do so; the next opening doesn't wait. */
+static void cancelled(void) {
+    uint64_t first, last;
+    char text[TEXT_ROOM] = "";
+    void *ended;
+    pthread_t thread;
+    CHECK(raftlog_accept_missing("", text, sizeof text) == RAFTLOG_INVALID && *text);
+    for (int is_open = 0; is_open < 2; is_open++) {
+        empty();
+        work(DELETING);
+        find(&first, &last);
+        take_away(first);
+        raftlog *log = is_open ? open_with(folder, DELETING) : NULL;
+        alarm(PATIENCE);
+        atomic_store(&accepted, -1);
+        CHECK(!pthread_create(&thread, NULL, accept_cancelled, (void *)folder));
+        CHECK(!pthread_join(thread, &ended) && ended == PTHREAD_CANCELED);
+        CHECK(atomic_load(&accepted) == (is_open ? RAFTLOG_IN_USE : RAFTLOG_OK) && is_noted() == is_open);
+        if (log) CHECK(raftlog_close(log) == 0);
+        CHECK(lost_in(DELETING, NULL) == (size_t)is_open);
+        alarm(0);
+    }
+}
+
+/* The settings without the second folder: its files aren't the log's. With a comment they are as without it. With a form
+ * that isn't known nothing is reported, and the note stays until a name changes. */
+static void settings(void) {
+    raftlog_lost lost[ROOM];
+    uint64_t first, last;
+    char name[TEXT_ROOM], other[TEXT_ROOM];
+    empty();
+    work(SPILLED);
+    find(&first, &last);
+    name_of(name, last);
+    snprintf(other, sizeof other, "%s/spill", folder);
+    run("mv '%s' '%s'", name, other);
+    CHECK(lost_in(DELETING, lost) == 1 && is_lost(lost, RAFTLOG_FILE_MISSING, last, last));
+
+    empty();
+    work(DELETING);
+    find(&first, &last);
+    take_away(first);
+    CHECK(lost_in(COMMENTED, lost) == 1 && is_lost(lost, RAFTLOG_FILE_MISSING, first, first));
+    CHECK(lost_in(INDENTED, NULL) == 0 && is_noted());
+    CHECK(lost_in(DELETING, lost) == 1 && is_lost(lost, RAFTLOG_FILE_MISSING, first, first));
+    raftlog *log = open_with(folder, INDENTED);
+    CHECK(raftlog_must_rewrite_append_queue(log, NULL) == 0 && !is_noted());
+    CHECK(raftlog_close(log) == 0 && lost_in(DELETING, NULL) == 0 && is_noted());
+}
+
 /* Files in the second folder are the log's. */
 static void spill(void) {
     raftlog_lost lost[ROOM];
@@ -239,6 +413,11 @@ int main(int argc, char **argv) {
     is_unknown();
     is_broken();
     spill();
+    delete_last();
+    note_fails();
+    of_another();
+    cancelled();
+    settings();
     count();
     empty();
     printf("ok, killed at %d file calls\n", kills);

@@ -118,8 +118,8 @@ static void count_names(struct parts_counts *counts, int kind, const char *last,
     parts_add(&counts->files, (uint64_t)(int64_t)more);
 }
 
-/* Carries out what is done to names. Before a file's name goes, the note has a later first one; after a new one is there,
- * a later last one. */
+/* Carries out what is done to names. A name that goes has left the note before: a deletion's by `leave_deleted`, a
+ * renaming's here. A new name is noted after it is there. */
 static int order_names(raftlog *log, int kind, const char *path, const char *to) {
     parts_let_file_go(log);
     int error = parts_keep_lock(log);

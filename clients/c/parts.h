@@ -302,7 +302,8 @@ int parts_judge_spans(raftlog *log);
 bool parts_tell_lost(const raftlog *log, char *text, size_t room);
 /* After a file was made at a path. A refused note leaves the one before, which is true. */
 void parts_add_span(raftlog *log, const char *path);
-/* Before the file at a path, and all of its queue with smaller numbers, are deleted or get other names. */
+/* Before the file at a path, and all of its queue with smaller numbers, are deleted or get other names; of the last file
+ * it alone. */
 int parts_leave_span(raftlog *log, const char *path);
 bool parts_is_same_queue(raftlog *log, const char *path, const char *other);
 int parts_forget_spans(raftlog *log);

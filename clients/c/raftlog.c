@@ -118,8 +118,9 @@ static int open_log(const char *folder, struct opening opening, raftlog **out, c
     parts_add_open(log);
     if (folder) code = parts_find(log, opening.settings, opening.refuses_lost, text, room);
     if (!code) code = open_found(log, opening.settings, text, room);
+    if (code) let_go(log);
     pthread_setcancelstate(was, NULL);
-    if (code) return let_go(log), code;
+    if (code) return code;
     forget_opening(&log->counts);
     /* A failure of a log that was closed, and had this address. */
     parts_fail(log, RAFTLOG_OK, NULL);
@@ -152,11 +153,16 @@ int raftlog_open_whole(const char *folder, const char *settings, raftlog **out, 
 }
 
 int raftlog_accept_missing(const char *folder, char *text, size_t room) {
-    if (!folder || !*folder) return RAFTLOG_INVALID;
     if (!text) room = 0;
+    if (room) text[0] = 0;
+    if (!folder || !*folder) return parts_put_text("the folder has no name", text, room), RAFTLOG_INVALID;
+    int was;
+    pthread_setcancelstate(PTHREAD_CANCEL_DISABLE, &was);
     raftlog *log = new_log();
     int code = !log || !(log->folder = strdup(folder)) ? RAFTLOG_NO_MEMORY : parts_accept(log, text, room);
+    if (code && room && !*text) parts_put_text(raftlog_code_text(code), text, room);
     if (log) let_go(log);
+    pthread_setcancelstate(was, NULL);
     return code;
 }
 

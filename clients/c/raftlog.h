@@ -202,7 +202,8 @@ size_t raftlog_cuts(raftlog *log, raftlog_cut *cuts, size_t room, size_t size);
 /* The log notes in its folder, in the file SPANS, which numbers its files have had. By this note an opening knows which
  * files were deleted by someone else. */
 enum {
-    /* Files of these numbers are needed, and do not exist: what they contained is lost. */
+    /* Files of these numbers are needed, and do not exist: what they contained is lost. A program that ignores SPANS may
+     * have dropped them: accept them then. */
     RAFTLOG_FILE_MISSING = 1,
     /* A file of this number exists, and does not follow on the log's files. An opening reads it, and not those before. */
     RAFTLOG_FILE_STRAY = 2,
@@ -217,9 +218,9 @@ typedef struct {
 } raftlog_lost;
 
 /* Returns how many such facts the opening found, and stores the first of them, at most `room`, in `lost`, which may be
- * NULL if `room` is 0. `size` is sizeof(raftlog_lost), as for `raftlog_stats`. After a crash or a kill there are none. An
- * opening reports the same files again until a purge makes them unneeded or the loss is accepted. Without a note nothing
- * is reported. */
+ * NULL if `room` is 0. `size` is sizeof(raftlog_lost), as for `raftlog_stats`. After a crash or a kill there are none.
+ * Later openings report them too, until a next file gets the number, a purge drops files after it, or the loss is
+ * accepted. Without a note nothing is reported. */
 size_t raftlog_missing(raftlog *log, raftlog_lost *lost, size_t room, size_t size);
 
 /* As `raftlog_open`, but fails as RAFTLOG_LOST if a file is missing or a stray. It has changed no log file then. */

@@ -233,17 +233,21 @@ static int read_note(struct parts_spans *spans, int fd) {
     return 0;
 }
 
-static int open_note(raftlog *log) {
+/* A note that can't be opened or read is removed, as if there was none. If that fails, none is written. */
+static void open_note(raftlog *log) {
     struct parts_spans *spans = log->spans;
     struct stat is;
-    if (fstatat(log->root, SPANS, &is, AT_SYMLINK_NOFOLLOW)) return errno == ENOENT ? 0 : errno;
-    if (!S_ISREG(is.st_mode) || is.st_nlink != 1) return spans->is_silent = true, 0;
-    int fd = openat(log->root, SPANS, O_RDWR | O_NOFOLLOW | O_CLOEXEC);
-    if (fd < 0) return errno;
-    int error = read_note(spans, fd);
-    if (error || spans->is_silent) return close(fd), error;
-    spans->file = fd;
-    return 0;
+    int found = fstatat(log->root, SPANS, &is, AT_SYMLINK_NOFOLLOW);
+    if (found && errno == ENOENT) return;
+    if (!found && (!S_ISREG(is.st_mode) || is.st_nlink != 1)) {
+        spans->is_silent = true;
+        return;
+    }
+    int fd = found ? -1 : openat(log->root, SPANS, O_RDWR | O_NOFOLLOW | O_CLOEXEC);
+    int error = fd < 0 ? errno : read_note(spans, fd);
+    if (!error && !spans->is_silent) spans->file = fd;
+    else if (fd >= 0) close(fd);
+    if (error) spans->is_silent = remove_note(log) != 0;
 }
 
 /* ---- which files are the log's */
@@ -259,9 +263,21 @@ static int queue_of(const struct parts_spans *spans, const char *path, uint64_t 
     return !strcmp(end, ".raftlog") ? APPEND : !strcmp(end, ".rewrite") ? REWRITE : -1;
 }
 
+/* The first `spill-dir` from a place of the settings on that isn't in a line of a comment; NULL if there is none. */
+static const char *find_key(const char *settings, const char *from) {
+    const char *key = from;
+    while ((key = strstr(key, "spill-dir"))) {
+        const char *line = key;
+        while (line > settings && line[-1] != '\n') line--;
+        if (line[strspn(line, " \t")] != '#') return key;
+        key += strlen("spill-dir");
+    }
+    return NULL;
+}
+
 /* The value of a line `spill-dir = ".."` of the settings. Another form, or a path that is too long, isn't known. */
 static bool find_spill(const char *settings, char *spill, size_t room) {
-    const char *key = strstr(settings, "spill-dir");
+    const char *key = find_key(settings, settings);
     *spill = 0;
     if (!key) return true;
     const char *at = key + strlen("spill-dir");
@@ -271,7 +287,7 @@ static bool find_spill(const char *settings, char *spill, size_t room) {
     const char *end = *at == '"' || *at == '\'' ? strchr(at + 1, *at) : NULL;
     size_t len = end ? (size_t)(end - at - 1) : room;
     if (len >= room || memchr(at, '\\', len + 1) || memchr(at, '\n', len + 1)) return false;
-    bool is_only = (key == settings || key[-1] == '\n') && !strstr(end, "spill-dir");
+    bool is_only = (key == settings || key[-1] == '\n') && !find_key(settings, end);
     memcpy(spill, at + 1, is_only ? len : 0);
     spill[is_only ? len : 0] = 0;
     return is_only;
@@ -284,6 +300,7 @@ static int compare(const void *one, const void *other) {
 
 /* ---- what the other files call */
 
+/* If the second folder isn't known, the note stays until a name changes: then it is removed. */
 int parts_begin_spans(raftlog *log, const char *settings) {
     struct parts_spans *spans = calloc(1, sizeof *spans);
     char spill[sizeof spans->spill];
@@ -292,13 +309,10 @@ int parts_begin_spans(raftlog *log, const char *settings) {
     spans->file = -1;
     spans->synced = 1;
     spans->queues[APPEND] = spans->queues[REWRITE] = empty;
-    int error = open_note(log);
-    bool is_known = find_spill(settings ? settings : "", spill, sizeof spill);
-    if (*spill) memcpy(spans->spill, spill, sizeof spill);
-    if (error || is_known) return error;
-    spans->is_silent = true;
-    if (spans->file >= 0) error = remove_note(log);
-    return error;
+    open_note(log);
+    if (find_spill(settings ? settings : "", spill, sizeof spill)) memcpy(spans->spill, spill, sizeof spill);
+    else spans->is_silent = true;
+    return 0;
 }
 
 int parts_find_span(raftlog *log, const char *path) {
@@ -347,7 +361,8 @@ void parts_add_span(raftlog *log, const char *path) {
     if (!span->last) span->first = number;
     else if (number != after(span->last)) return;
     span->last = number;
-    write_note(log);
+    if (log->spans->is_silent) write_or_remove(log);
+    else write_note(log);
 }
 
 bool parts_is_same_queue(raftlog *log, const char *path, const char *other) {
@@ -360,9 +375,10 @@ int parts_leave_span(raftlog *log, const char *path) {
     uint64_t number;
     int queue = queue_of(log->spans, path, &number);
     struct span *span = &log->spans->queues[queue < 0 ? 0 : queue];
-    if (queue < 0 || number < span->first) return 0;
-    span->first = after(number);
-    if (number > span->last) span->last = number;
+    if (queue < 0 || number < span->first || number > span->last) return 0;
+    if (span->first == span->last) *span = empty;
+    else if (number == span->last) span->last = number - 1;
+    else span->first = number + 1;
     return write_or_remove(log);
 }
 

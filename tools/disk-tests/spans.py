@@ -36,10 +36,30 @@ class Span:
         return vars(self) == vars(other)
 
     def at_opening(self, files):
+        """The span with which an opening goes on; None if none is known: a file may be missing, and there is no true note."""
         if self.is_stale(files):
             run = kept(files)
-            return Span(run[0], run[-1]) if run else Span()
+            return Span(run[0], run[-1]) if run[0] == min(files) else None
         return Span(self.front(files), self.end(files))
+
+    def leave(self, number):
+        """A file gets another name or is deleted: whether that changes the span."""
+        if not self.first <= number <= self.last:
+            return False
+        if self.first == self.last:
+            self.first, self.last, self.is_dropping = 1, 0, False
+        elif number == self.last:
+            self.last = number - 1
+        else:
+            self.first = number + 1
+        return True
+
+    def delete(self, number):
+        """A file is deleted, and perhaps those after it: whether the note must be written before."""
+        first, is_next = self.first, self.is_dropping and number == self.first
+        is_changed = self.leave(number)
+        self.is_dropping = self.is_dropping or first < self.first
+        return is_changed and not is_next
 
     def report(self, files):
         """Missing, stray and left-over numbers, and whether the note is stale."""

@@ -43,7 +43,8 @@ func AcceptMissing(folder string) error {
 }
 
 // Missing returns the log files that the opening found to be missing or strays. After a crash or a kill there are none.
-// Later openings report them too, until a purge makes them unneeded or AcceptMissing is called.
+// Later openings report them too, until a next file gets the number, a purge drops files after it, or AcceptMissing is
+// called.
 func (e *Engine) Missing() ([]Loss, error) {
 	e.mutex.RLock()
 	defer e.mutex.RUnlock()

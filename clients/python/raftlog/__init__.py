@@ -297,7 +297,8 @@ class Engine:
     def missing(self):
         """The log files that the opening found to be missing or strays, by the log's note of their numbers. A Loss has its
         kind (FILE_MISSING, FILE_STRAY, or NOTE_STALE: not known), the queue, and the least and the greatest number. After a
-        crash or a kill there are none. Later openings report them too, until a purge or `accept_missing`."""
+        crash or a kill there are none. Later openings report them too, until a next file gets the number, a purge drops
+        files after it, or `accept_missing` is called."""
         if not self._log:
             raise Error(FAILED, "the log is closed")
         count = _C.raftlog_missing(self._log, None, 0, 0)

@@ -554,7 +554,7 @@ impl Engine {
     }
 
     /// The log files that the opening found to be missing or strays. After a crash or a kill there are none. Later openings
-    /// report them too, until a purge makes them unneeded or `accept_missing` is called.
+    /// report them too, until a next file gets the number, a purge drops files after it, or `accept_missing` is called.
     pub fn missing(&self) -> Vec<Loss> {
         let count = unsafe { sys::raftlog_missing(self.log, ptr::null_mut(), 0, 0) };
         let mut found = Vec::with_capacity(count);
