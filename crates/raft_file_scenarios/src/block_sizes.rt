@@ -1,11 +1,10 @@
 //! A file that is read in blocks of different sizes.
 
 use crate::failing::Failing;
-use crate::in_memory::{Tried, holds_in_memory};
 use crate::told::assert_row;
 use raft_env::{FileSystem, FsFault, IoKind, Permission};
 use raft_files::{LogFileReader, LogItemBatchFileReader};
-use raft_memory::FsCall;
+use raft_memory::{FsCall, MemoryFileSystem};
 use raft_records::{Fault, FileId, LogBatch, LogQueue};
 use std::alloc::Global;
 
@@ -143,9 +142,9 @@ fn others_read<F: FileSystem>(fs: &mut F, alloc: Global, ends: &[usize]) -> Resu
     }
 }
 
-/// Whether all records are read with blocks of each size, and a read that is refused behind the
-/// opening shows before the last one.
-pub(crate) fn is_read_in_blocks<F: Failing>(fs: &mut F, alloc: Global) -> Result<bool, Fault> {
+// Whether all records are read with blocks of each size, and a read that is refused behind the
+// opening shows before the last one.
+fn is_read_in_blocks<F: Failing>(fs: &mut F, alloc: Global) -> Result<bool, Fault> {
     let ends = written(fs, alloc)?;
     let all = each_reads(fs, alloc, &ends, (RECORDS, 0))?;
     let mut records = open(fs, alloc, 512)?;
@@ -157,8 +156,12 @@ pub(crate) fn is_read_in_blocks<F: Failing>(fs: &mut F, alloc: Global) -> Result
     Ok(all && read < RECORDS && code == 3 && others)
 }
 
+fn is_read_in_memory(alloc: Global) -> Result<bool, Fault> {
+    let mut fs = MemoryFileSystem::new(alloc);
+    is_read_in_blocks(&mut fs, alloc)
+}
+
 #[test]
 fn block_size_changes_no_batch(rt: HostRuntime) {
-    let held = holds_in_memory(rt.alloc(), &Tried::BlockSizes);
-    assert_row(&rt, held, "a file of many records");
+    assert_row(&rt, is_read_in_memory(rt.alloc()), "a file of many records");
 }

@@ -2,19 +2,17 @@
 
 ghost use Rattle.raft_files.specs.Header.{HasHeader};
 
-use crate::in_memory::{Tried, holds_in_memory};
-use crate::told::assert_case;
+use crate::told::{assert_case, assert_row};
 use raft_dump::{build_file_reader, build_file_writer};
 use raft_env::FileSystem;
 use raft_files::LogFileFormat;
+use raft_memory::MemoryFileSystem;
 use raft_records::{Fault, Version};
 use raft_rows::{HEADER, PUT, fill, store};
 use std::alloc::Global;
 
 /// A path, whether the file is asked for, and where its writer stands, or a fault's code.
-pub(crate) type Writer = (&'static str, bool, Result<usize, u8>);
-
-static WRITERS: [Writer; 5] = [
+static ROWS: [(&str, bool, Result<usize, u8>); 5] = [
     ("a/found", false, Ok(89)),
     ("a/found", true, Ok(61)),
     ("a/missing", true, Ok(61)),
@@ -42,13 +40,13 @@ fn read_len<F: FileSystem>(alloc: Global, fs: &mut F, path: &str) -> Result<usiz
     }
 }
 
-/// Whether the file's writer and a reader after it come to what the row says.
-pub(crate) fn is_built<F: FileSystem>(
+fn holds<F: FileSystem>(
     fs: &mut F,
     alloc: Global,
-    row: &Writer,
+    path: &str,
+    create: bool,
+    offset: Result<usize, u8>,
 ) -> Result<bool, Fault> {
-    let (path, create, offset) = *row;
     fill(
         fs,
         alloc,
@@ -64,16 +62,27 @@ pub(crate) fn is_built<F: FileSystem>(
     })
 }
 
+fn holds_in_memory(
+    alloc: Global,
+    path: &str,
+    create: bool,
+    offset: Result<usize, u8>,
+) -> Result<bool, Fault> {
+    let mut fs = MemoryFileSystem::new(alloc);
+    holds(&mut fs, alloc, path, create, offset)
+}
+
 #[test]
 fn writers_stand_behind_a_header(rt: HostRuntime) {
-    for (place, row) in WRITERS.iter().enumerate() {
-        assert_case(&rt, holds_in_memory(rt.alloc(), &Tried::Writer(row)), place);
+    for (path, create, offset) in &ROWS {
+        let held = holds_in_memory(rt.alloc(), path, *create, *offset);
+        assert_row(&rt, held, path);
     }
 }
 
 /// The version of a header that is in a file, how many bytes of it are there, and the version in which the file is
 /// then written.
-pub(crate) struct Begun(Version, usize, Version);
+struct Begun(Version, usize, Version);
 
 static BEGUN: [Begun; 6] = [
     Begun(Version::V1, 60, Version::V1),
@@ -128,20 +137,16 @@ fn written_format<F: FileSystem>(
     }
 }
 
-/// Whether a file that begins so has the writer's header.
-pub(crate) fn is_written_again<F: FileSystem>(
-    fs: &mut F,
-    alloc: Global,
-    row: &Begun,
-) -> Result<bool, Fault> {
+fn is_written_again(alloc: Global, row: &Begun) -> Result<bool, Fault> {
     let Begun(from, len, to) = row;
-    begin(alloc, fs, *from, *len)?;
-    Ok(written_format(alloc, fs, *to)? == Some(format_of(*to)))
+    let mut fs = MemoryFileSystem::new(alloc);
+    begin(alloc, &mut fs, *from, *len)?;
+    Ok(written_format(alloc, &mut fs, *to)? == Some(format_of(*to)))
 }
 
 #[test]
 fn a_partly_written_header_is_written_again(rt: HostRuntime) {
     for (place, row) in BEGUN.iter().enumerate() {
-        assert_case(&rt, holds_in_memory(rt.alloc(), &Tried::Begun(row)), place);
+        assert_case(&rt, is_written_again(rt.alloc(), row), place);
     }
 }

@@ -1,8 +1,10 @@
 //! Calls on the files of a folder: what each is answered, and what then stands on the disk.
 
-use crate::disk::{Disk, Reading};
+use crate::in_folder::{InFolder, try_in_folder};
 use crate::reads::{bytes_at, place_in};
+use raft_disk::{DiskFileSystem, DiskWriter, Folder};
 use raft_env::{FileSystem, FsFault, IoKind, Permission};
+use raft_memory::MemoryFileSystem;
 use std::test::Fail;
 use std::{fs, io};
 
@@ -52,7 +54,7 @@ pub(crate) enum Step {
 type Row = (Step, Option<IoKind>, &'static str, Option<&'static [u8]>);
 
 /// The rows of each of a folder's openings, one after the other.
-pub(crate) struct Case {
+struct Case {
     name: &'static str,
     openings: [&'static [Row]; 3],
 }
@@ -190,7 +192,7 @@ const OPEN: &[Row] = &[
     (Step::Create(B), None, B, Some(b"")),
 ];
 
-static CASES: [Case; 10] = [
+const CASES: [Case; 10] = [
     Case {
         name: "names",
         openings: [NAMES, NAMES_AGAIN, NAMES_WRITTEN],
@@ -280,10 +282,26 @@ fn take<F: FileSystem>(
     }
 }
 
-/// Takes a step that needs no writer of an earlier one.
-pub(crate) fn take_alone<F: FileSystem>(files: &mut F, step: &Step) -> Result<(), FsFault> {
+type DiskFileWriter = DiskWriter<Folder, MemoryFileSystem>;
+
+// Each function that calls files on the disk is dear to prove: no other does.
+fn take_on_disk(
+    files: &mut DiskFileSystem,
+    writer: &mut Option<DiskFileWriter>,
+    step: &Step,
+) -> Result<(), FsFault> {
+    take(files, writer, step)
+}
+
+/// Takes a step on the disk that no writer of an earlier one takes.
+pub(crate) fn take_alone(files: &mut DiskFileSystem, step: &Step) -> Result<(), FsFault> {
     let mut writer = None;
-    take(files, &mut writer, step)
+    take_on_disk(files, &mut writer, step)
+}
+
+/// Whether a file is known at the path.
+pub(crate) fn is_known(files: &DiskFileSystem, path: &str) -> bool {
+    files.is_file(path)
 }
 
 // Whether the file at the path has these bytes on the disk, or stands there no more.
@@ -308,16 +326,16 @@ fn lose(rt: &HostRuntime, folder: &str, step: &Step) -> io::Result<()> {
 }
 
 // The first row whose answer or whose file on the disk is another.
-fn first_wrong<F: FileSystem>(
+fn first_wrong(
     rt: &HostRuntime,
-    files: &mut F,
+    files: &mut DiskFileSystem,
     folder: &str,
     rows: &[Row],
 ) -> Result<Option<usize>, Fail> {
     let mut writer = None;
     for (place, (step, fault, path, bytes)) in rows.iter().enumerate() {
         lose(rt, folder, step)?;
-        let answer = match take(files, &mut writer, step) {
+        let answer = match take_on_disk(files, &mut writer, step) {
             Ok(()) => None,
             Err(FsFault::Io(kind)) => Some(kind),
             Err(FsFault::Memory) => return Err(Fail::new("memory")),
@@ -329,26 +347,27 @@ fn first_wrong<F: FileSystem>(
     Ok(None)
 }
 
-fn wrong_in<F: Disk>(rt: HostRuntime, folder: &str, rows: &[Row]) -> Result<Option<usize>, Fail> {
-    let mut files = F::open_folder(rt, folder, Reading::All)?;
+fn wrong_in(rt: HostRuntime, folder: &str, rows: &[Row]) -> Result<Option<usize>, Fail> {
+    let mut files = DiskFileSystem::open(rt, folder)?;
     first_wrong(&rt, &mut files, folder, rows)
 }
 
-/// Whether each opening's rows come to what they say.
-pub(crate) fn are_carried_out<F: Disk>(
-    rt: HostRuntime,
-    folder: &str,
-    case: &Case,
-) -> Result<bool, Fail> {
-    for (opening, rows) in case.openings.iter().enumerate() {
-        if let Some(row) = wrong_in::<F>(rt, folder, rows)? {
-            let name = case.name;
-            return Err(Fail::new(format_args!("{name}: opening {opening}, row {row}")));
+impl InFolder for Case {
+    fn holds(&self, rt: HostRuntime, folder: &str) -> Result<bool, Fail> {
+        for (opening, rows) in self.openings.iter().enumerate() {
+            if let Some(row) = wrong_in(rt, folder, rows)? {
+                let name = self.name;
+                return Err(Fail::new(format_args!("{name}: opening {opening}, row {row}")));
+            }
         }
+        Ok(true)
     }
-    Ok(true)
 }
 
-pub(crate) fn cases() -> &'static [Case] {
-    &CASES
+#[test]
+fn calls_are_carried_out_on_the_disk(rt: HostRuntime) -> Result<(), Fail> {
+    for (place, case) in CASES.iter().enumerate() {
+        try_in_folder(rt, "calls", place, case)?;
+    }
+    Ok(())
 }

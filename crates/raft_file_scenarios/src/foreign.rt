@@ -1,10 +1,10 @@
 //! What stands in a log's folder and is none of its files: an opening passes it over, and no call reaches it.
 
-use crate::calls::{Step, take_alone};
-use crate::disk::{Disk, Reading};
+use crate::calls::{Step, is_known, take_alone};
+use crate::in_folder::{InFolder, try_in_folder};
 use crate::reads::{bytes_at, place_in, stands_at, text_of, write_at};
-use raft_disk::{OpenFault, is_log_name};
-use raft_env::{FileSystem, FsFault, IoKind};
+use raft_disk::{DiskFileSystem, OpenFault, is_log_name};
+use raft_env::{FsFault, IoKind};
 use std::os::unix::fs::symlink;
 use std::test::Fail;
 use std::{fs, io};
@@ -78,10 +78,10 @@ const KNOWN: [(&str, bool, bool); 6] = [
     ("again", false, false),
 ];
 
-fn knows<F: FileSystem>(files: &F, all: bool) -> bool {
+fn knows(files: &DiskFileSystem, all: bool) -> bool {
     for (path, in_all, in_two) in &KNOWN {
         let wanted = if all { *in_all } else { *in_two };
-        if files.is_file(path) != wanted {
+        if is_known(files, path) != wanted {
             return false;
         }
     }
@@ -121,7 +121,7 @@ fn is_refused(done: Result<(), FsFault>, wanted: Option<IoKind>) -> bool {
     }
 }
 
-fn reaches<F: FileSystem>(files: &mut F, reach: &Reach) -> bool {
+fn reaches(files: &mut DiskFileSystem, reach: &Reach) -> bool {
     let (step, wanted) = match reach {
         Reach::Create(path, wanted) => (Step::Create(*path), *wanted),
         Reach::MakeDir(path, wanted) => (Step::MakeDir(*path), *wanted),
@@ -131,7 +131,7 @@ fn reaches<F: FileSystem>(files: &mut F, reach: &Reach) -> bool {
     is_refused(take_alone(files, &step), wanted)
 }
 
-fn is_out_of_reach<F: FileSystem>(files: &mut F) -> bool {
+fn is_out_of_reach(files: &mut DiskFileSystem) -> bool {
     for reach in &REACHES {
         if !reaches(files, reach) {
             return false;
@@ -140,9 +140,9 @@ fn is_out_of_reach<F: FileSystem>(files: &mut F) -> bool {
     true
 }
 
-fn opened<F: Disk>(rt: HostRuntime, folder: &str) -> Result<[bool; 3], OpenFault> {
-    let all = knows(&F::open_folder(rt, folder, Reading::All)?, true);
-    let mut files = F::open_folder(rt, folder, Reading::Two("s/t"))?;
+fn opened(rt: HostRuntime, folder: &str) -> Result<[bool; 3], OpenFault> {
+    let all = knows(&DiskFileSystem::open(rt, folder)?, true);
+    let mut files = DiskFileSystem::open_with(rt, folder, Some("s/t"))?;
     Ok([all, knows(&files, false), is_out_of_reach(&mut files)])
 }
 
@@ -156,11 +156,24 @@ fn is_kept(rt: &HostRuntime, folder: &str) -> io::Result<bool> {
     Ok(!stands_at(rt, folder, "nothing")?)
 }
 
-/// Whether openings pass over foreign things, and leave them as they are.
-pub(crate) fn are_passed_over<F: Disk>(rt: HostRuntime, folder: &str) -> Result<bool, Fail> {
+fn passes_over(rt: HostRuntime, folder: &str) -> Result<([bool; 3], bool), Fail> {
     make(&rt, folder)?;
-    let opened = opened::<F>(rt, folder)?;
-    Ok(opened == [true, true, true] && is_kept(&rt, folder)?)
+    let opened = opened(rt, folder)?;
+    Ok((opened, is_kept(&rt, folder)?))
+}
+
+#[derive(Drop)]
+struct Foreign;
+
+impl InFolder for Foreign {
+    fn holds(&self, rt: HostRuntime, folder: &str) -> Result<bool, Fail> {
+        Ok(passes_over(rt, folder)? == ([true, true, true], true))
+    }
+}
+
+#[test]
+fn foreign_things_are_passed_over(rt: HostRuntime) -> Result<(), Fail> {
+    try_in_folder(rt, "foreign", 0, &Foreign)
 }
 
 /// Paths of a second folder, and the text for which the opening is refused, none where it isn't.
@@ -174,14 +187,23 @@ const SECONDS: [(&str, &str); 7] = [
     ("later/on", ""),
 ];
 
-/// Whether openings with second folders come to what is said of each.
-pub(crate) fn are_below<F: Disk>(rt: HostRuntime, folder: &str) -> Result<bool, Fail> {
-    make(&rt, folder)?;
-    for (second, text) in &SECONDS {
-        let said = text_of(&rt, F::open_folder(rt, folder, Reading::Two(second)))?;
-        if !said.ends_with(*text) || said.is_empty() != text.is_empty() {
-            return Err(Fail::new(*second));
+#[derive(Drop)]
+struct Seconds;
+
+impl InFolder for Seconds {
+    fn holds(&self, rt: HostRuntime, folder: &str) -> Result<bool, Fail> {
+        make(&rt, folder)?;
+        for (second, text) in &SECONDS {
+            let said = text_of(&rt, DiskFileSystem::open_with(rt, folder, Some(*second)))?;
+            if !said.ends_with(*text) || said.is_empty() != text.is_empty() {
+                return Err(Fail::new(*second));
+            }
         }
+        Ok(true)
     }
-    Ok(true)
+}
+
+#[test]
+fn second_folders_are_below(rt: HostRuntime) -> Result<(), Fail> {
+    try_in_folder(rt, "second", 0, &Seconds)
 }

@@ -11,8 +11,6 @@ mod calls;
 #[cfg(test)]
 mod checks;
 #[cfg(test)]
-mod disk;
-#[cfg(test)]
 mod dumps;
 #[cfg(test)]
 mod failing;
@@ -20,8 +18,6 @@ mod failing;
 mod foreign;
 #[cfg(test)]
 mod in_folder;
-#[cfg(test)]
-mod in_memory;
 #[cfg(test)]
 mod log_files;
 #[cfg(test)]

@@ -1,10 +1,9 @@
 //! A log file that is written, cut and read back.
 ghost use Rattle.raft_files.specs.Writer.{IsWriterOf};
 
-use crate::in_memory::{Tried, holds_in_memory};
-use crate::told::assert_row;
 use raft_env::{FileSystem, FsFault};
 use raft_files::{LogFileFormat, LogFileReader, LogFileWriter, LogItemBatchFileReader};
+use raft_memory::MemoryFileSystem;
 use raft_records::{Fault, FileBlockHandle, FileId, LogQueue, Version};
 use std::alloc::Global;
 
@@ -168,19 +167,13 @@ fn is_written_and_read<F: FileSystem>(fs: &mut F, alloc: Global) -> Result<bool,
     Ok(written && read && replayed && ends(fs, alloc, &handle)? == (85, 61))
 }
 
-/// Whether what is written is read back.
-pub(crate) fn is_read_back<F: FileSystem>(fs: &mut F, alloc: Global) -> Result<bool, Fault> {
-    match is_written_and_read(fs, alloc) {
-        Ok(held) => Ok(held),
-        Err(fault) => Err(fault.with_path(alloc, "log")),
-    }
+fn is_read_back(alloc: Global) -> Result<bool, FsFault> {
+    let mut fs = MemoryFileSystem::new(alloc);
+    is_written_and_read(&mut fs, alloc)
 }
 
 #[test]
 fn written_bytes_are_read_back(rt: HostRuntime) {
-    assert_row(
-        &rt,
-        holds_in_memory(rt.alloc(), &Tried::LogFile),
-        "a log file",
-    );
+    let held = is_read_back(rt.alloc());
+    assert!(rt; matches!(held, Ok(true)), "{held:?}");
 }

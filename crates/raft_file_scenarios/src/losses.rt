@@ -1,12 +1,12 @@
 //! What is told before an opening of what it loses.
 
-use crate::in_memory::{Tried, holds_in_memory};
-use crate::told::{assert_case, assert_row};
+use crate::told::{assert_row, assert_rows};
 use raft_config::{Config, RecoveryMode};
 use raft_env::FileSystem;
 use raft_inspect::{Cut, Losses, Passed, Unexplained, inspect};
+use raft_memory::MemoryFileSystem;
 use raft_records::{Fault, Fresh, LogQueue};
-use raft_rows::{FileParts, HEADER, PUT, PUTS, ZEROS, fill};
+use raft_rows::{FileParts, HEADER, PUT, PUTS, Row, ZEROS, fill};
 use std::alloc::Global;
 
 /// A path, where the bytes begin that are cut off and how many there are, and why an unsynced tail
@@ -14,7 +14,7 @@ use std::alloc::Global;
 struct WantedCut(&'static str, usize, usize, Option<Unexplained>);
 
 /// Files, a mode, whether the opening fails, what it cuts off, and what it passes over.
-pub(crate) struct Case(
+struct Case(
     &'static [FileParts],
     RecoveryMode,
     bool,
@@ -116,7 +116,7 @@ static CASES: [Case; 13] = [
 const NO_HEADER: &[FileParts] = &[(FIRST, &[HEADER, PUT]), (SECOND, &[ZEROS])];
 
 /// Files, a queue, and its last file where that holds nothing and another one stands before it.
-pub(crate) struct EmptyLast(&'static [FileParts], LogQueue, Option<&'static str>);
+struct EmptyLast(&'static [FileParts], LogQueue, Option<&'static str>);
 
 static EMPTY_LASTS: [EmptyLast; 5] = [
     EmptyLast(WHOLE, LogQueue::Rewrite, Some("a/0000000000000005.rewrite")),
@@ -158,12 +158,7 @@ fn found<F: FileSystem>(fs: &mut F, alloc: Global, mode: RecoveryMode) -> Result
     Losses::find(alloc, &settings(alloc, mode)?, fs)
 }
 
-/// Whether what is told is what the case says.
-pub(crate) fn is_told<F: FileSystem>(
-    fs: &mut F,
-    alloc: Global,
-    case: &Case,
-) -> Result<bool, Fault> {
+fn is_told<F: FileSystem>(fs: &mut F, alloc: Global, case: &Case) -> Result<bool, Fault> {
     let Case(files, mode, fails, cuts, passed) = case;
     fill(fs, alloc, files)?;
     let losses = found(fs, alloc, *mode)?;
@@ -171,23 +166,22 @@ pub(crate) fn is_told<F: FileSystem>(
     Ok(are_others_so && are_wanted(fs, alloc, &losses.cuts, cuts)?)
 }
 
-#[test]
-fn losses_are_told_before_an_opening(rt: HostRuntime) {
-    for (place, case) in CASES.iter().enumerate() {
-        assert_case(
-            &rt,
-            holds_in_memory(rt.alloc(), &Tried::Losses(case)),
-            place,
-        );
+impl Row for Case {
+    type State = ();
+
+    fn holds(&self, alloc: Global, _: &mut ()) -> Result<bool, Fault> {
+        let mut fs = MemoryFileSystem::new(alloc);
+        is_told(&mut fs, alloc, self)
     }
 }
 
-/// Whether the last file that holds nothing is told, or none.
-pub(crate) fn is_last<F: FileSystem>(
-    fs: &mut F,
-    alloc: Global,
-    row: &EmptyLast,
-) -> Result<bool, Fault> {
+#[test]
+fn losses_are_told_before_an_opening(rt: HostRuntime) {
+    assert_rows(&rt, rt.alloc(), &mut (), &CASES);
+}
+
+// Whether the last file that holds nothing is told, or none.
+fn is_last<F: FileSystem>(fs: &mut F, alloc: Global, row: &EmptyLast) -> Result<bool, Fault> {
     let EmptyLast(files, queue, wanted) = row;
     fill(fs, alloc, files)?;
     let found = inspect(alloc, fs, &["a", "b"], *queue)?;
@@ -200,28 +194,31 @@ pub(crate) fn is_last<F: FileSystem>(
     })
 }
 
-#[test]
-fn a_last_file_that_holds_nothing_is_told(rt: HostRuntime) {
-    for (place, row) in EMPTY_LASTS.iter().enumerate() {
-        assert_case(
-            &rt,
-            holds_in_memory(rt.alloc(), &Tried::EmptyLast(row)),
-            place,
-        );
+impl Row for EmptyLast {
+    type State = ();
+
+    fn holds(&self, alloc: Global, _: &mut ()) -> Result<bool, Fault> {
+        let mut fs = MemoryFileSystem::new(alloc);
+        is_last(&mut fs, alloc, self)
     }
 }
 
-/// Whether nothing is told where no folder stands.
-pub(crate) fn loses_nothing<F: FileSystem>(fs: &mut F, alloc: Global) -> Result<bool, Fault> {
+#[test]
+fn a_last_file_that_holds_nothing_is_told(rt: HostRuntime) {
+    assert_rows(&rt, rt.alloc(), &mut (), &EMPTY_LASTS);
+}
+
+fn loses_nothing<F: FileSystem>(fs: &mut F, alloc: Global) -> Result<bool, Fault> {
     let losses = found(fs, alloc, TAIL)?;
     Ok(!losses.fails && losses.cuts.is_empty() && losses.passed.is_empty())
 }
 
+fn nothing_is_lost(alloc: Global) -> Result<bool, Fault> {
+    let mut fs = MemoryFileSystem::new(alloc);
+    loses_nothing(&mut fs, alloc)
+}
+
 #[test]
 fn folders_that_are_not_there_have_no_files(rt: HostRuntime) {
-    assert_row(
-        &rt,
-        holds_in_memory(rt.alloc(), &Tried::NoFolders),
-        "no folders",
-    );
+    assert_row(&rt, nothing_is_lost(rt.alloc()), "no folders");
 }

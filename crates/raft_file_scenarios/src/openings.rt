@@ -1,7 +1,8 @@
 //! Openings that fail: what they say, and that what stood there stands as it did.
 
-use crate::disk::{Disk, Reading};
+use crate::in_folder::{InFolder, try_in_folder};
 use crate::reads::{place_in, text_of, write_at};
+use raft_disk::DiskFileSystem;
 use std::alloc::AllocError;
 use std::fs::{self, DirEntry};
 use std::io;
@@ -19,7 +20,7 @@ enum Made {
 }
 
 /// What is opened, and the fault's path and text. The paths go on from the test's folder.
-pub(crate) struct Case {
+struct Case {
     made: &'static [Made],
     opened: &'static str,
     named: &'static str,
@@ -38,7 +39,7 @@ const LOG_IN_G: &str = "g/0000000000000001.raftlog";
 
 const NOT_PLAIN: &str = "neither a folder nor a file of one name";
 
-static CASES: [Case; 7] = [
+const CASES: [Case; 7] = [
     Case {
         made: &[Made::File("f")],
         opened: "/f",
@@ -127,43 +128,62 @@ fn standing(rt: &HostRuntime, folder: &str) -> Result<Vec<String>, Fail> {
 }
 
 // What an opening says, which is nothing where it doesn't fail.
-fn fault_of<F: Disk>(rt: HostRuntime, place: &str) -> Result<String, AllocError> {
-    text_of(&rt, F::open_folder(rt, place, Reading::All))
+fn fault_of(rt: HostRuntime, place: &str) -> Result<String, AllocError> {
+    text_of(&rt, DiskFileSystem::open(rt, place))
 }
 
-/// Whether the opening fails with this text, and leaves the folder as it was.
-pub(crate) fn fails_so<F: Disk>(rt: HostRuntime, folder: &str, case: &Case) -> Result<bool, Fail> {
+// Whether the opening fails with this text, and leaves what stood there.
+fn fails_so(rt: HostRuntime, folder: &str, case: &Case) -> Result<bool, Fail> {
     for made in case.made {
         make(&rt, folder, made)?;
     }
     let before = standing(&rt, folder)?;
     let opened = format!(in rt.alloc(); "{folder}{}", case.opened)?;
     let wanted = format!(in rt.alloc(); "{folder}{}: {}", case.named, case.text)?;
-    let fault = fault_of::<F>(rt, opened.as_str())?;
+    let fault = fault_of(rt, opened.as_str())?;
     Ok(fault.starts_with(wanted.as_str()) && standing(&rt, folder)? == before)
 }
 
-pub(crate) fn cases() -> &'static [Case] {
-    &CASES
+impl InFolder for Case {
+    fn holds(&self, rt: HostRuntime, folder: &str) -> Result<bool, Fail> {
+        fails_so(rt, folder, self)
+    }
+}
+
+#[test]
+fn openings_fail_without_a_change(rt: HostRuntime) -> Result<(), Fail> {
+    for (place, case) in CASES.iter().enumerate() {
+        try_in_folder(rt, "openings", place, case)?;
+    }
+    Ok(())
 }
 
 // What a second opening says, and a third after the first has ended.
-fn opened_again<F: Disk>(rt: HostRuntime, folder: &str) -> Result<(String, String), Fail> {
-    let first = F::open_folder(rt, folder, Reading::All)?;
-    let second = fault_of::<F>(rt, folder);
+fn opened_again(rt: HostRuntime, folder: &str) -> Result<(String, String), Fail> {
+    let first = DiskFileSystem::open(rt, folder)?;
+    let second = fault_of(rt, folder);
     drop(first);
-    Ok((second?, fault_of::<F>(rt, folder)?))
+    Ok((second?, fault_of(rt, folder)?))
 }
 
-/// Whether a folder that is open can't be opened again until it is closed.
-pub(crate) fn is_open_once<F: Disk>(rt: HostRuntime, folder: &str) -> Result<bool, Fail> {
-    let (second, third) = opened_again::<F>(rt, folder)?;
-    let wanted = format!(in rt.alloc(); "{folder}: it is open already")?;
-    Ok(second == wanted && third.is_empty())
+#[derive(Drop)]
+struct OpenOnce;
+
+impl InFolder for OpenOnce {
+    fn holds(&self, rt: HostRuntime, folder: &str) -> Result<bool, Fail> {
+        let (second, third) = opened_again(rt, folder)?;
+        let wanted = format!(in rt.alloc(); "{folder}: it is open already")?;
+        Ok(second == wanted && third.is_empty())
+    }
+}
+
+#[test]
+fn a_folder_is_open_once(rt: HostRuntime) -> Result<(), Fail> {
+    try_in_folder(rt, "once", 0, &OpenOnce)
 }
 
 // What the opening of a read-only folder says, or nothing where this user may write to it, as root.
-fn read_only<F: Disk>(rt: HostRuntime, folder: &str) -> Result<Option<String>, Fail> {
+fn read_only(rt: HostRuntime, folder: &str) -> Result<Option<String>, Fail> {
     let mut permissions = fs::metadata(&rt, folder)?.permissions();
     permissions.set_readonly(true);
     fs::set_permissions(&rt, folder, permissions)?;
@@ -171,16 +191,25 @@ fn read_only<F: Disk>(rt: HostRuntime, folder: &str) -> Result<Option<String>, F
     if fs::write(&rt, tried.as_str(), b"").is_ok() {
         return Ok(None);
     }
-    Ok(Some(fault_of::<F>(rt, folder)?))
+    Ok(Some(fault_of(rt, folder)?))
 }
 
 const DENIED: &str = "its lock cannot be opened: Permission denied";
 
-/// Whether a folder that this user may not write to can't be opened.
-pub(crate) fn is_denied<F: Disk>(rt: HostRuntime, folder: &str) -> Result<bool, Fail> {
-    let Some(fault) = read_only::<F>(rt, folder)? else {
-        return Ok(true);
-    };
-    let wanted = format!(in rt.alloc(); "{folder}: {DENIED}")?;
-    Ok(fault.starts_with(wanted.as_str()))
+#[derive(Drop)]
+struct Writable;
+
+impl InFolder for Writable {
+    fn holds(&self, rt: HostRuntime, folder: &str) -> Result<bool, Fail> {
+        let Some(fault) = read_only(rt, folder)? else {
+            return Ok(true);
+        };
+        let wanted = format!(in rt.alloc(); "{folder}: {DENIED}")?;
+        Ok(fault.starts_with(wanted.as_str()))
+    }
+}
+
+#[test]
+fn a_folder_has_to_be_writable(rt: HostRuntime) -> Result<(), Fail> {
+    try_in_folder(rt, "read-only", 0, &Writable)
 }

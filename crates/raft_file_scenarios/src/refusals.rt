@@ -1,8 +1,9 @@
 //! What the system said of a call that it refused.
 
 use crate::calls::{Step, take_alone};
-use crate::disk::{Disk, Reading};
+use crate::in_folder::{InFolder, try_in_folder};
 use crate::reads::{place_in, write_at};
+use raft_disk::DiskFileSystem;
 use std::alloc::AllocError;
 use std::test::Fail;
 use std::{fs, io};
@@ -24,7 +25,7 @@ const TOO_LONG: &str = "File name too long";
 const GONE: &str = "No such file or directory";
 
 /// A call, what can't be done, with what, and the system's text; none where the system wasn't asked.
-pub(crate) struct Case(Step, Option<(&'static str, &'static str, &'static str)>);
+struct Case(Step, Option<(&'static str, &'static str, &'static str)>);
 
 static CASES: [Case; 7] = [
     Case(Step::Create(LONG), Some(("made", LONG, TOO_LONG))),
@@ -41,13 +42,13 @@ fn lose(rt: &HostRuntime, folder: &str) -> io::Result<()> {
 }
 
 // Whether the folder tells what the system said.
-fn has_said<F: Disk>(
+fn is_told(
     rt: &HostRuntime,
     folder: &str,
-    files: &F,
+    files: &DiskFileSystem,
     wanted: &Option<(&'static str, &'static str, &'static str)>,
 ) -> Result<bool, AllocError> {
-    match (files.last_refusal(), wanted) {
+    match (files.refusal(), wanted) {
         (Some(refusal), Some((call, name, text))) => {
             let said = format!(in rt.alloc(); "{folder}/{name}: it cannot be {call}: {text}")?;
             Ok(refusal.starts_with(said.as_str()))
@@ -58,10 +59,10 @@ fn has_said<F: Disk>(
 }
 
 // Whether the call fails, and that is told.
-fn tells<F: Disk>(
+fn tells(
     rt: &HostRuntime,
     folder: &str,
-    files: &mut F,
+    files: &mut DiskFileSystem,
     case: &Case,
 ) -> Result<bool, Fail> {
     lose(rt, folder)?;
@@ -69,17 +70,22 @@ fn tells<F: Disk>(
     if take_alone(files, step).is_ok() {
         return Ok(false);
     }
-    Ok(has_said(rt, folder, files, wanted)?)
+    Ok(is_told(rt, folder, files, wanted)?)
 }
 
-/// Whether the call fails in a folder of two files, and the folder tells why.
-pub(crate) fn is_told<F: Disk>(rt: HostRuntime, folder: &str, case: &Case) -> Result<bool, Fail> {
-    write_at(&rt, folder, A, b"kept")?;
-    write_at(&rt, folder, LOST, b"kept")?;
-    let mut files = F::open_folder(rt, folder, Reading::All)?;
-    tells(&rt, folder, &mut files, case)
+impl InFolder for Case {
+    fn holds(&self, rt: HostRuntime, folder: &str) -> Result<bool, Fail> {
+        write_at(&rt, folder, A, b"kept")?;
+        write_at(&rt, folder, LOST, b"kept")?;
+        let mut files = DiskFileSystem::open(rt, folder)?;
+        tells(&rt, folder, &mut files, self)
+    }
 }
 
-pub(crate) fn cases() -> &'static [Case] {
-    &CASES
+#[test]
+fn refused_calls_are_told(rt: HostRuntime) -> Result<(), Fail> {
+    for (place, case) in CASES.iter().enumerate() {
+        try_in_folder(rt, "refusals", place, case)?;
+    }
+    Ok(())
 }

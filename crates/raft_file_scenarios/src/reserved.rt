@@ -1,9 +1,10 @@
 //! Reserved files that an opening passes over: they stand as they did until they are deleted.
 
-use crate::calls::{Step, take_alone};
-use crate::disk::{Disk, Reading};
+use crate::calls::{Step, is_known, take_alone};
+use crate::in_folder::{InFolder, try_in_folder};
 use crate::reads::{bytes_at, place_in, stands_at, write_at};
-use raft_env::{FileSystem, FsFault, IoKind};
+use raft_disk::DiskFileSystem;
+use raft_env::{FsFault, IoKind};
 use std::fs;
 use std::test::Fail;
 
@@ -35,29 +36,38 @@ fn stand(rt: &HostRuntime, folder: &str) -> Result<bool, Fail> {
     Ok(true)
 }
 
-fn is_out_of_reach<F: FileSystem>(files: &mut F) -> bool {
+fn is_out_of_reach(files: &mut DiskFileSystem) -> bool {
     let made = take_alone(files, &Step::Create(RESERVED));
     let deleted = take_alone(files, &Step::Delete(OTHER));
     made == Err(FsFault::Io(IoKind::Other))
         && deleted == Err(FsFault::Io(IoKind::NotFound))
-        && !files.is_file(RESERVED)
-        && files.is_file(LOG)
+        && !is_known(files, RESERVED)
+        && is_known(files, LOG)
 }
 
 // Whether they are passed over by the opening, gone after the deletion, and then a file is made in
 // their place.
-fn pass_over<F: Disk>(rt: &HostRuntime, folder: &str, files: &mut F) -> Result<bool, Fail> {
+fn pass_over(rt: &HostRuntime, folder: &str, files: &mut DiskFileSystem) -> Result<bool, Fail> {
     let first = is_out_of_reach(files) && stand(rt, folder)?;
-    files.delete_unread()?;
+    files.delete_reserved()?;
     let second = !stands_at(rt, folder, RESERVED)? && !stands_at(rt, folder, OTHER)?;
     let third = take_alone(files, &Step::Create(RESERVED)).is_ok();
-    files.delete_unread()?;
+    files.delete_reserved()?;
     Ok(first && second && third && stands_at(rt, folder, RESERVED)?)
 }
 
-/// Whether an opening without them passes over reserved files.
-pub(crate) fn are_passed_over<F: Disk>(rt: HostRuntime, folder: &str) -> Result<bool, Fail> {
-    make(&rt, folder)?;
-    let mut files = F::open_folder(rt, folder, Reading::NoReserved("s"))?;
-    pass_over(&rt, folder, &mut files)
+#[derive(Drop)]
+struct Reserved;
+
+impl InFolder for Reserved {
+    fn holds(&self, rt: HostRuntime, folder: &str) -> Result<bool, Fail> {
+        make(&rt, folder)?;
+        let mut files = DiskFileSystem::open_without_reserved(rt, folder, Some("s"))?;
+        pass_over(&rt, folder, &mut files)
+    }
+}
+
+#[test]
+fn reserved_files_are_passed_over(rt: HostRuntime) -> Result<(), Fail> {
+    try_in_folder(rt, "reserved", 0, &Reserved)
 }

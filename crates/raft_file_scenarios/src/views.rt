@@ -1,8 +1,8 @@
 //! Looks at a folder: what they read, and that the folder is byte for byte as before.
 
-use crate::disk::{Disk, Reading};
+use crate::in_folder::{InFolder, try_in_folder};
 use crate::reads::{place_in, stands_at, text_of, write_at};
-use raft_disk::FolderView;
+use raft_disk::{DiskFileSystem, FolderView};
 use std::alloc::AllocError;
 use std::fs::{self, DirEntry};
 use std::io;
@@ -61,21 +61,30 @@ fn make(rt: &HostRuntime, folder: &str) -> Result<(), Fail> {
 }
 
 // A look at a folder without a lock, at one that may not be written, and at one that a writer has.
-fn looks<F: Disk>(rt: HostRuntime, folder: &str) -> Result<[bool; 3], Fail> {
+fn looks(rt: HostRuntime, folder: &str) -> Result<[bool; 3], Fail> {
     make(&rt, folder)?;
     let first = sees_the_log(rt, folder, false)?;
     set_writable(&rt, folder, false)?;
     let second = sees_the_log(rt, folder, false)?;
     set_writable(&rt, folder, true)?;
-    let writer = F::open_folder(rt, folder, Reading::All)?;
+    let writer = DiskFileSystem::open(rt, folder)?;
     let third = sees_the_log(rt, folder, true);
     drop(writer);
     Ok([first, second, third?])
 }
 
-/// Whether looks find the log, and leave the folder byte for byte as it was.
-pub(crate) fn change_nothing<F: Disk>(rt: HostRuntime, folder: &str) -> Result<bool, Fail> {
-    Ok(looks::<F>(rt, folder)? == [true, true, true])
+#[derive(Drop)]
+struct AFolder;
+
+impl InFolder for AFolder {
+    fn holds(&self, rt: HostRuntime, folder: &str) -> Result<bool, Fail> {
+        Ok(looks(rt, folder)? == [true, true, true])
+    }
+}
+
+#[test]
+fn looks_change_nothing(rt: HostRuntime) -> Result<(), Fail> {
+    try_in_folder(rt, "looks", 0, &AFolder)
 }
 
 // What a look at a place says, which is nothing where it doesn't fail.
@@ -94,15 +103,29 @@ fn says(rt: HostRuntime, place: &str, text: &str, is_all: bool) -> Result<bool, 
     Ok(fault.starts_with(wanted.as_str()) && (!is_all || fault.len() == wanted.len()))
 }
 
-/// Whether looks at a file, at nothing and at an empty name say so, and make nothing.
-pub(crate) fn fail_so(rt: HostRuntime, folder: &str) -> Result<bool, Fail> {
+// Whether looks at a file, at nothing and at an empty name say so, and make nothing.
+fn fail_so(rt: HostRuntime, folder: &str) -> Result<[bool; 4], Fail> {
     make(&rt, folder)?;
     let file = place_in(&rt, folder, "log")?;
     let missing = place_in(&rt, folder, "missing")?;
-    Ok(
-        says(rt, file.as_str(), IN_PLACE, true)?
-            && says(rt, missing.as_str(), NOWHERE, false)?
-            && fault_of(rt, "")?.as_str() == "a folder has no empty name"
-            && !stands_at(&rt, folder, "missing")?,
-    )
+    Ok([
+        says(rt, file.as_str(), IN_PLACE, true)?,
+        says(rt, missing.as_str(), NOWHERE, false)?,
+        fault_of(rt, "")?.as_str() == "a folder has no empty name",
+        !stands_at(&rt, folder, "missing")?,
+    ])
+}
+
+#[derive(Drop)]
+struct NoFolder;
+
+impl InFolder for NoFolder {
+    fn holds(&self, rt: HostRuntime, folder: &str) -> Result<bool, Fail> {
+        Ok(fail_so(rt, folder)? == [true, true, true, true])
+    }
+}
+
+#[test]
+fn looks_at_no_folder_fail(rt: HostRuntime) -> Result<(), Fail> {
+    try_in_folder(rt, "no-looks", 0, &NoFolder)
 }
