@@ -51,8 +51,7 @@ const MAX_SPARE_FILES: u64 = u32::MAX as u64;
 /// With `serde` a program can make them a table of its own settings: keys are in kebab case, a key
 /// that is missing has its default, and other keys are passed over. The contracts of `serde` do not
 /// say which settings are read. Those of `raft_settings` do.
-#[derive(Debug, PartialEq, Serialize, Deserialize)]
-#[serde(rename_all = "kebab-case", default)]
+#[derive(Debug, PartialEq)]
 pub struct Config {
     /// The folder of the log files. The empty path is the root of the file system.
     pub dir: String,

@@ -2,5 +2,6 @@
 #![tactic(auto)]
 
 mod config;
+mod table;
 
 pub use config::{Config, RecoveryMode};
