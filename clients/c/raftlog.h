@@ -22,9 +22,9 @@
  * done; once it has begun it ends with its result. A read cannot be cancelled. Asynchronous cancellation is not
  * supported.
  *
- * Processes. In a child that was forked each call on a log of the parent fails as RAFTLOG_FAILED and does nothing, and
- * `raftlog_close` there frees memory alone. The child does not keep the parent's folder locked. Its own logs are as
- * any.
+ * Processes. In a child that was forked each call on a log of the parent fails as RAFTLOG_FAILED and does nothing.
+ * `raftlog_close` there frees only memory, and `raftlog_missing` and `raftlog_cuts` return what the parent's opening
+ * found. The child does not keep the parent's folder locked. Its own logs are as any.
  *
  * Folders. The log holds its folder open until the close, and reaches its files through it. So it continues in its own
  * folder if the folder is moved, if another one gets its name, or if the program changes its working directory. A link

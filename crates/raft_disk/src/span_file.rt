@@ -27,7 +27,7 @@ pub(crate) struct SpanFile {
     synced: u64,
     /// Whether the folder knows more than the note.
     is_behind: bool,
-    /// What the note told at the opening; none if there was no note.
+    /// What the note said at the opening; none if there was no note.
     reports: Option<SpanReports>,
 }
 
@@ -143,7 +143,7 @@ impl SpanFile {
         Ok(numbers)
     }
 
-    /// What the note told at the opening; none if there was no note.
+    /// What the note said at the opening; none if there was no note.
     pub(crate) fn reports(&self) -> Option<&SpanReports> {
         self.reports.as_ref()
     }
