@@ -1,7 +1,6 @@
 -- What a purge by watermarks returns, and what it leaves.
 use Rattle.std.specs.Prelude.{◌≡◌, ◌⊎◌, ◌==◌, ℕ, true, false, List, [], None}
 use Rattle.std.specs.List.{list_any}
-use Rattle.std.specs.Option.{option_map}
 use Rattle.raft_env.specs.declared.env.FileSystem.{Ghosts}
 use Rattle.raft_base.specs.declared.pipe_log.LogQueue.TheVariants.{Append}
 use Rattle.raft_listeners.specs.Heard.{HasAnswered, Heard}
@@ -16,7 +15,7 @@ use Rattle.raft_purge_rules.specs.declared.choosing.Decision.{Decision}
 use Rattle.raft_purge_rules.specs.declared.choosing.Needs.{Needs}
 use Rattle.raft_tables.specs.Tables.{tables_of}
 use Rattle.raft_log_engine.specs.Engine.{has_failed, has_groups_together, queue_of, rewrite_queue_of, settings_of}
-use Rattle.raft_log_engine.specs.Need.{needs_of, needs_rewrite, rewritten_of, use_of}
+use Rattle.raft_log_engine.specs.Need.{append_rewrite_watermark, needs_of, needs_rewrite, rewritten_of, use_of}
 use Rattle.raft_log_engine.specs.declared.engine.Engine.{Engine}
 
 -- no queue is to be rewritten
@@ -34,7 +33,7 @@ module _ {F H R W : Type 0} {g : Ghosts F H R W} where
     pub decided : AreDecisions (needs_of e) e.rounds (tables_of e.log.tables) decisions
     pub value : asked ≡ groups_by Asked decisions
     pub append : HasPurgedAppend barrier (groups_by Rewritten decisions) e'.log.tables (queue_of e)
-        (queue_of e') (option_map (λ w. w.rewrite) (needs_of e).append)
+        (queue_of e') (append_rewrite_watermark e)
     pub rewrite : (rewrite_queue_of e').first
         ≡ first_renewed (needs_of e).rewrite (has_groups_together e) (rewrite_queue_of e)
     -- if only the Append queue is rewritten, other groups keep their places

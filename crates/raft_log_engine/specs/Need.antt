@@ -1,5 +1,6 @@
 -- When a queue's log files are to be rewritten.
-use Rattle.std.specs.Prelude.{◌+◌, ◌*◌, ◌-◌, ◌^◌, min, length, Bool, Option, Some, None, if◌then◌else◌}
+use Rattle.std.specs.Prelude.{◌+◌, ◌*◌, ◌-◌, ◌^◌, ℕ, min, length, Bool, Option, Some, None, if◌then◌else◌}
+use Rattle.std.specs.Option.{option_map}
 use Rattle.raft_base.specs.declared.pipe_log.LogQueue.{LogQueue}
 use Rattle.raft_base.specs.declared.pipe_log.LogQueue.TheVariants.{Append, Rewrite}
 use Rattle.raft_config.specs.Sanitized.{rewrite_threshold}
@@ -50,3 +51,7 @@ module _ {F H R W : Type 0} {g : Ghosts F H R W} where
     rewrite = needs_rewrite Rewrite (settings_of e) (use_of Rewrite e) (rewritten_of e);
     append = append_watermarks e;
   }
+
+  -- up to which file a purge by watermarks rewrites the Append queue, if that is due
+  abbrev pub append_rewrite_watermark : Engine F H R W g → Option ℕ
+  append_rewrite_watermark e = option_map (λ w. w.rewrite) (needs_of e).append

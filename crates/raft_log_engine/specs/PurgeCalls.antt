@@ -1,6 +1,5 @@
 -- What the purges of an engine do to it, with listeners and without.
 use Rattle.std.specs.Prelude.{◌≡◌, ◌↔◌, ◌⊎◌, ℕ, true, false, [], Err, IfErr, IfOk, None, OnErr, OnOk, Option, Result, Some, Vec, is_ok}
-use Rattle.std.specs.Option.{option_map}
 use Rattle.std.specs.List.Sorted.{IsStrictlySortedBy}
 use Rattle.std.specs.Ordering.{nat_cmp}
 use Rattle.std.specs.declared.alloc.Global.{Global}
@@ -21,7 +20,7 @@ use Rattle.raft_log_engine.specs.Durability.{Progresses, StaysFailed, durability
 use Rattle.raft_log_engine.specs.Engine.{contents_of, directory_of, durable_of, folders_of, has_failed, queue_of, refusals_of, rewrite_queue_of, spans_of, unsynced_of}
 use Rattle.raft_log_engine.specs.Events.{AreRecordsCut, HearsPurge}
 use Rattle.raft_log_engine.specs.Expired.{AsksBarrier, HasPurgedExpired}
-use Rattle.raft_log_engine.specs.Need.{needs_of}
+use Rattle.raft_log_engine.specs.Need.{append_rewrite_watermark, needs_of}
 use Rattle.raft_log_engine.specs.Purge.{Frees, HasFreed, HasLastId, HasOpenGroup, IsFailureCause, IsPurgeFault, LacksId, LeavesNewFiles, LeavesOpen, OwesTooMuch, files_behind, next_files, queue_freed}
 use Rattle.raft_log_engine.specs.declared.engine.Engine.{Engine}
 use Rattle.raft_log_engine.specs.declared.engine.purge_kind.Purge.{Purge}
@@ -90,9 +89,8 @@ module _ {F H R W : Type 0} {g : Ghosts F H R W} where
     pub renewal : LeavesNewFiles result None old.renewal new.renewal
     pub first : OnErr result (HasLostFront (Some barrier) new.log.tables (queue_of old) (queue_of new))
     -- places change by a renewal if that is due, then up to the watermark if that is due
-    pub moved : OnOk result (MovesDue (needs_of old).rewrite
-        (option_map (λ w. w.rewrite) (needs_of old).append) (tables_of old.log.tables)
-        (tables_of new.log.tables))
+    pub moved : OnOk result (MovesDue (needs_of old).rewrite (append_rewrite_watermark old)
+        (tables_of old.log.tables) (tables_of new.log.tables))
     -- a renewal without a rewriting of the Append queue starts its counters again at 0
     pub counted : OnOk result ((needs_of old).rewrite ≡ true → (needs_of old).append ≡ None
         → deleted_count new.log.stats ≡ 0)
