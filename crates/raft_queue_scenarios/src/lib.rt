@@ -45,6 +45,10 @@ mod stored;
 #[cfg(test)]
 mod told;
 #[cfg(test)]
+mod tried;
+#[cfg(test)]
 mod two_folders;
 #[cfg(test)]
 mod two_queues;
+#[cfg(test)]
+mod workers;
