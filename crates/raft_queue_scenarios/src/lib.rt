@@ -37,6 +37,8 @@ mod refused;
 #[cfg(test)]
 mod reserved_files;
 #[cfg(test)]
+mod reserved_rows;
+#[cfg(test)]
 mod shares;
 #[cfg(test)]
 mod steps;

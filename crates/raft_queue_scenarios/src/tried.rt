@@ -2,8 +2,8 @@
 
 use crate::failing::Failing;
 use crate::{
-    checks, crashed_queues, crashed_rows, queues, read_bytes, refused, reserved_files, two_folders,
-    two_queues,
+    checks, crashed_queues, crashed_rows, queues, read_bytes, refused, reserved_files,
+    reserved_rows, two_folders, two_queues,
 };
 use raft_env::IoKind;
 use raft_memory::MemoryFileSystem;
@@ -24,9 +24,9 @@ pub(crate) enum Tried {
     /// An opening makes reserved files, and the next one deletes them.
     Reserved,
     ScanClears,
-    Clearing(&'static reserved_files::Cleared),
-    Placing(&'static reserved_files::Room),
-    Prefilling(&'static reserved_files::Prefilled),
+    Clearing(&'static reserved_rows::Cleared),
+    Placing(&'static reserved_rows::Room),
+    Prefilling(&'static reserved_rows::Prefilled),
 }
 
 fn holds<F: Failing>(alloc: Global, tried: &Tried) -> bool {
