@@ -133,7 +133,7 @@ LeavesBehind (RenewGroups x) append t t' = MovesOnly None t t'
 LeavesBehind (DropExpired x) append t t' = MovesDue x.renews x.watermark t t'
 LeavesBehind _ append t t' = Unit {0}
 
--- only the Rewrite queue is rewritten, so its counters start again at 0
+-- the purge ends a renewal and rewrites nothing else, so the counters start again at 0
 abbrev pub RewritesOnlyRewrite : Purge → Type 0
 RewritesOnlyRewrite RewriteRewrite = Unit {0}
 RewritesOnlyRewrite (RenewGroups x) = x.is_last ≡ true
@@ -175,7 +175,7 @@ abbrev pub LeavesNewFiles : {T : Type 0} → Result T Fault → Option NewFiles 
 LeavesNewFiles result behind old new =
     MatchResult result (λ x. new ≡ behind) (λ e. (new ≡ None) ⊎ (new ≡ old))
 
--- why the steps of a purge fail
+-- why the steps of a purge fail: IsAtomicRefusal or HasNoId if it may renew, else IsPurgeRefusal
 abbrev pub IsRunRefusal : Purge → GroupsMet → DualState → DualState → Directory → Refusals → Refusals
     → (Fault → Type 0) → StepFault → Type 0
 IsRunRefusal RewriteRewrite groups d d' n' old new U f =
@@ -186,7 +186,7 @@ IsRunRefusal (DropExpired x) groups d d' n' old new U f =
     IsAtomicRefusal d d' n' old new (λ e. HasNoId groups e ⊎ U e) f
 IsRunRefusal _ groups d d' n' old new U f = IsPurgeRefusal d d' n' old new U f
 
--- what fails an engine in a purge: an open atomic group, or IsByChange; no read and no delete
+-- what fails an engine in a purge: IsByChange; or any fault while an atomic group is open
 abbrev pub IsFailureCause : Type 0 → DualState → Directory → Refusals → Refusals → Fault → Type 0
 IsFailureCause ends_open d n old new e = ends_open ⊎ IsByChange d n old new e
 
@@ -245,6 +245,6 @@ module _ {F H R W : Type 0} {g : Ghosts F H R W} where
   abbrev pub LacksId : Purge → Engine F H R W g → Type 0
   LacksId purge e = MayLackId purge e.log.groups
 
-  -- the marks that an engine owed have no record, by its tables after a call
+  -- some marks that an engine owed are too long for a record, by its tables after a call
   abbrev pub OwesTooMuch : Engine F H R W g → Engine F H R W g → Type 0
   OwesTooMuch old new = HaveOwedNoRecord (tables_of new.log.tables) (owed_of old.log.owed) fault.Range

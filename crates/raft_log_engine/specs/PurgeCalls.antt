@@ -46,7 +46,7 @@ module _ {F H R W : Type 0} {g : Ghosts F H R W} where
         (rewrite_queue_of new) ends_open (no_id ⊎ OwesTooMuch old new) (folders_of old)
         (has_failed new) (refusals_of old) (refusals_of new))
 
-  -- the files that a purge leaves, the number that it returns, and what it moves; no rounds count
+  -- the files that a purge leaves, the number that it returns, what it moves; the rounds stay
   pub record FreesFiles (purge : Purge) (result : Result ℕ Fault) (old new : Engine F H R W g)
       : Type 0 where
     pub value : IfOk result (HasFreed purge old.log.store.pipes new.log.store.pipes)

@@ -19,7 +19,7 @@ use Rattle.raft_tables.specs.declared.memtables.MemTables.{MemTables}
 use Rattle.raft_log_engine.specs.Engine.{has_groups_together, queue_of, rewrite_queue_of}
 use Rattle.raft_log_engine.specs.declared.engine.Engine.{Engine}
 
--- groups from this one up to the next have nothing in old files, nor have those with nothing there
+-- groups from this one up to the next have nothing in old files, nor do groups that had nothing there
 pub record HasRenewedFrom (first from : ℕ) (next : Option ℕ) (t t' : Tables) : Type 0 where
   pub emptied : (group : ℕ)
       → ((nat_le from group && comes_before next group) ≡ true) ⊎ IsAllFrom first (or_empty (t group))

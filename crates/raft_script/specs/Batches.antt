@@ -55,7 +55,7 @@ batch_of_acts (a ∷ acts) =
 abbrev pub items_of_acts : List Act → Batch
 items_of_acts acts = unwrap_or (batch_of_acts acts) []
 
--- acts for a batch of a group, and whether it asks for a sync
+-- one batch of a `WriteGroup`: its acts, and whether it asks for a sync
 abbrev pub Part : Type 0
 Part = Vec Act Global × Bool
 

@@ -23,7 +23,7 @@ use Rattle.raft_script.specs.declared.operation.Outcome.{Outcome}
 use Rattle.raft_script.specs.declared.operation.Outcome.TheVariants as reply
 use Rattle.raft_script.specs.declared.operation.Outcome.TheVariants.{Size, Sizes, Done, Value, Count, Index, Dropped, ToCompact}
 
--- the operation doesn't change the engine: it reads from memory, or it is a write without a batch
+-- the operation makes no storage call: it reads from memory, or the acts of a write make no batch
 abbrev pub IsUnasked : Op → Type 0
 IsUnasked (Write acts sync) = batch_of_acts acts.items ≡ None
 IsUnasked (WriteOnce acts pairs sync) = batch_of_acts acts.items ≡ None

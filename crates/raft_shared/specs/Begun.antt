@@ -9,17 +9,17 @@ use Rattle.raft_log_engine.specs.declared.engine.Engine.{Engine}
 use Rattle.raft_shared.specs.History.{Event, storage_refusals}
 
 module _ {F H R W : Type 0} {g : Ghosts F H R W} where
-  -- the contents that it held
+  -- the contents that the engine held when it was shared
   abbrev pub contents_in : List (Engine F H R W g) → Contents
   contents_in [] = no_contents
   contents_in (engine ∷ _) = contents_of engine
 
-  -- it had failed
+  -- the engine had failed when it was shared
   abbrev pub failed_in : List (Engine F H R W g) → Bool
   failed_in [] = false
   failed_in (engine ∷ _) = has_failed engine
 
-  -- how many calls of its files had failed
+  -- how many calls of its file system had failed when it was shared
   abbrev pub refusals_in : List (Engine F H R W g) → Refusals
   refusals_in [] = no_refusals
   refusals_in (engine ∷ _) = refusals_of engine
@@ -32,7 +32,7 @@ module _ {F H R W : Type 0} {g : Ghosts F H R W} where
   abbrev pub is_out_of_numbers : Engine F H R W g → Bool
   is_out_of_numbers engine = not (has_failed engine) && lacks_numbers engine
 
-  -- no number was left for a next log file
+  -- no number was left for a next log file when the engine was shared
   abbrev pub lacks_numbers_in : List (Engine F H R W g) → Bool
   lacks_numbers_in [] = false
   lacks_numbers_in (engine ∷ _) = lacks_numbers engine

@@ -95,7 +95,7 @@ module _ {F H R W : Type 0} {g : Ghosts F H R W} where
     pub receipt_is : told_by receipt
         ≡ record { number = length (history_of old); asked = asked; answer = answer }
 
-  -- the engine wrote, and the call was recorded with the result
+  -- the engine was asked to write, and the call was recorded with the result
   pub record RecordsWrite (items rest : Batch) (sync : Bool) (old new : Shared F H R W g)
       (seat seat' : Seat) (receipt : Receipt) : Type 0 where
     pub result : Result ℕ Fault
@@ -105,7 +105,7 @@ module _ {F H R W : Type 0} {g : Ghosts F H R W} where
     pub recorded : HasRecorded (Write items sync) (Size (answer_by (λ n. n) result)) old new seat
         seat' receipt
 
-  -- the engine wrote with numbers, and the call was recorded with the result
+  -- the engine was asked to write with numbers, and the call was recorded with the result
   pub record RecordsWriteOnce (items rest : Batch) (pairs : List Pair) (sync : Bool)
       (old new : Shared F H R W g) (seat seat' : Seat) (receipt : Receipt) : Type 0 where
     pub result : Result ℕ Fault
@@ -115,7 +115,7 @@ module _ {F H R W : Type 0} {g : Ghosts F H R W} where
     pub recorded : HasRecorded (WriteOnce items pairs sync) (Size (answer_by (λ n. n) result)) old
         new seat seat' receipt
 
-  -- the engine synced, and the call was recorded with the result
+  -- the engine was asked to sync, and the call was recorded with the result
   pub record RecordsSync (old new : Shared F H R W g) (seat seat' : Seat) (receipt : Receipt)
       : Type 0 where
     pub result : Result (Unit {0}) Fault
@@ -123,7 +123,7 @@ module _ {F H R W : Type 0} {g : Ghosts F H R W} where
     pub ended : had_ended new ≡ had_ended old
     pub recorded : HasRecorded Sync (Done (answer_by (λ _. tt) result)) old new seat seat' receipt
 
-  -- the engine purged, with these groups to compact, and the call was recorded
+  -- the engine was asked to purge; these groups are to be compacted, none after `Err`
   pub record RecordsPurge (barrier : ℕ) (old new : Shared F H R W g) (seat seat' : Seat)
       (asked : List ℕ) (receipt : Receipt) : Type 0 where
     pub result : Result (Vec ℕ Global) Fault
