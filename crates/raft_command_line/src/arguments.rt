@@ -167,6 +167,7 @@ fn read_import<'a>(alloc: Global, matches: &ArgMatches<'a>) -> Result<Import<'a>
         spill: matches.get_str("from-spill"),
         group: matches.get_one("group"),
         kind: read_kind(alloc, matches)?,
+        replace: matches.get_flag("replace"),
     })
 }
 

@@ -95,7 +95,7 @@ pub(crate) static CHANGE_FORMS: [Form; 12] = [
     Form {
         name: "import",
         sort: Sort::Import,
-        about: "Writes the batches that `dump --json` printed, in their order; or the contents of another log, whose entries may be compressed by LZ4; status 4 if that log's end could not be read",
+        about: "Writes the batches that `dump --json` printed, in their order; or the contents of another log, whose entries may be compressed by LZ4; status 4 if not all of that log could be read",
         words: &[
             Word(
                 "FILE",
@@ -114,6 +114,11 @@ pub(crate) static CHANGE_FORMS: [Form; 12] = [
             ),
             Word("group", Kind::Named, "The items of this group alone"),
             KIND,
+            Word(
+                "replace",
+                Kind::Flag,
+                "Replaces entries that the log has already; without it an import that would do so writes nothing",
+            ),
             NO_SYNC,
             DRY_RUN,
         ],

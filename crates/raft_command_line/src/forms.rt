@@ -84,7 +84,8 @@ Statuses:
   5  check, consistency, fork: an opening would fail
   6  check, consistency, fork: an opening would pass files over, or leave out those of a folder
   7  a change was refused, and nothing done: its opening would lose more than an unsynced tail
-     explains; look with check, cut and keep with repair, or say --cut
+     explains; look with check, cut and keep with repair, or say --cut. Or an import would
+     replace entries: --replace allows it
 
 `raftctl help COMMAND` has an example of each command.";
 

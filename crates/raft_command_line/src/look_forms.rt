@@ -211,7 +211,7 @@ pub(crate) static LOOK_FORMS: [Form; 17] = [
             Word(
                 "stale",
                 Kind::Flag,
-                "Also takes records that an earlier use of a file left behind: they may bring back what was deleted",
+                "Also takes records that an earlier use of a file left, and files that a purge had dropped: they may bring back what was deleted",
             ),
             DRY_RUN,
         ],

@@ -115,6 +115,8 @@ pub struct Import<'a> {
     pub spill: Option<&'a str>,
     pub group: Option<u64>,
     pub kind: Option<&'a str>,
+    /// Whether entries that the log has already may be replaced.
+    pub replace: bool,
 }
 
 /// Which records of the folder go where.
@@ -124,7 +126,8 @@ pub struct Salvage<'a> {
     pub target: &'a str,
     /// The files that are read; all of the folder if none is named.
     pub files: Vec<&'a str>,
-    /// Whether records are taken that an earlier use of a file left behind.
+    /// Whether records are taken that an earlier use of a file left, and files that a purge had
+    /// dropped.
     pub stale: bool,
 }
 
