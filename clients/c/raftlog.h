@@ -210,7 +210,7 @@ enum {
     /* Another program wrote to the log after the note of these numbers: whether a file is missing isn't known. */
     RAFTLOG_NOTE_STALE = 3,
     /* A file was missing at an earlier opening, and cannot be put back: a next file got its number, or a purge dropped
-     * files after it. Whether the log needed it is not known any more. */
+     * files after it. Which file it was is not known any more: the numbers are those of the note. */
     RAFTLOG_LOST_BEFORE = 4
 };
 

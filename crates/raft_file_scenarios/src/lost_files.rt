@@ -126,7 +126,7 @@ impl InFolder for Case {
         }
         match (DiskFileSystem::open_whole(rt, folder, None), wanted) {
             (Ok(_), None) => Ok(true),
-            (Err(OpenFault::Lost(_, files)), Some(wanted)) => Ok(files == *wanted),
+            (Err(OpenFault::Lost(_, files)), Some(wanted)) => Ok(files.as_str() == *wanted),
             _ => Ok(false),
         }
     }
