@@ -40,7 +40,7 @@ module _ {F H R W : Type 0} {g : Ghosts F H R W} where
     pub others :
         (needs_of e).rewrite ≡ false
         → KeepsOthers (groups_by Rewritten decisions) (tables_of e.log.tables) (tables_of e'.log.tables)
-    -- the queue has a file after the watermark, and ends as before
+    -- the queue has no next file
     pub last : last_seq (queue_of e') ≡ last_seq (queue_of e)
     -- if no queue is to be rewritten, pipes, tables, counters and facts about groups are as before
     pub idle :

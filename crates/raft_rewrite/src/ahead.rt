@@ -10,8 +10,8 @@ pub(crate) const AHEAD: usize = 32;
 const MOST: usize = 4096;
 
 /// Reads a byte of each line of the next values, from one on, in one loop. So the processor waits
-/// for all lines at once and not for one after the other. The sum keeps the reads, and has no
-/// meaning.
+/// for all lines at once and not for one after the other. The sum is to keep the reads,
+/// and has no meaning.
 pub(crate) fn touch(pairs: &[(&[u8], &[u8])], from: usize) -> u64 {
     let mut sum = 0u64;
     let end = from.saturating_add(AHEAD).min(pairs.len());
