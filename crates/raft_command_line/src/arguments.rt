@@ -2,7 +2,10 @@
 
 use crate::change_forms::CHANGE_FORMS;
 use crate::escaping::printable;
-use crate::forms::{CHANGE_OPTIONS, EACH, Form, Kind, LookSort, OPTIONS, STATUSES, Sort, Word};
+use crate::forms::{
+    CHANGE_OPTIONS, ChangeSort, EACH, Form, GroupLookSort, Kind, LookSort, OPTIONS, OtherSort,
+    STATUSES, Sort, Word,
+};
 use crate::look_forms::LOOK_FORMS;
 use crate::modes::mode_named;
 use crate::request::{
@@ -60,22 +63,38 @@ fn sort_among(forms: &[Form], name: &str) -> Option<Sort> {
 
 fn read_request<'a>(alloc: Global, matches: &ArgMatches<'a>) -> Result<Request<'a>, Error> {
     // None is missing of a command line that `command` takes.
-    let (Some(folder), Some((name, rest))) = (matches.get_str("FOLDER"), matches.subcommand())
+    let (Some(folder), Some((name, words))) = (matches.get_str("FOLDER"), matches.subcommand())
     else {
         return Err(Error::from(AllocError));
     };
-    let options = read_options(alloc, rest)?;
-    let mut whole = true;
-    let Some(sort) = sort_named(name) else {
-        return Err(Error::from(AllocError));
-    };
-    check_json(alloc, name, sort, &options)?;
-    let verb = read_verb(alloc, sort, rest, &mut whole)?;
-    if !whole {
-        return Err(Error::from(AllocError));
+    match sort_named(name) {
+        Some(sort) => read_command(alloc, folder, name, sort, words),
+        None => Err(Error::from(AllocError)),
     }
-    let no_sync = rest.get_flag("no-sync");
-    Ok(Request::new(folder, options, verb, no_sync))
+}
+
+fn read_command<'a>(
+    alloc: Global,
+    folder: &'a str,
+    name: &str,
+    sort: Sort,
+    words: &ArgMatches<'a>,
+) -> Result<Request<'a>, Error> {
+    let options = read_options(alloc, words)?;
+    check_json(alloc, name, sort, &options)?;
+    let no_sync = words.get_flag("no-sync");
+    let mut whole = true;
+    let verb = read_verb(alloc, sort, words, &mut whole)?;
+    request_if(whole, Request::new(folder, options, verb, no_sync))
+}
+
+// Where a word is missing there is no request, as where memory is.
+fn request_if(whole: bool, request: Request<'_>) -> Result<Request<'_>, Error> {
+    if whole {
+        Ok(request)
+    } else {
+        Err(Error::from(AllocError))
+    }
 }
 
 // Each line is an object if objects are asked for, and bytes alone or a picture are none.
@@ -92,26 +111,42 @@ fn check_json(alloc: Global, name: &str, sort: Sort, options: &Options<'_>) -> R
     Ok(())
 }
 
+// The mode that is named, or the usual one.
+fn read_mode(alloc: Global, matches: &ArgMatches<'_>) -> Result<RecoveryMode, Error> {
+    let Some(word) = matches.get_str("mode") else {
+        return Ok(RecoveryMode::TolerateTailCorruption);
+    };
+    match mode_named(word) {
+        Some(mode) => Ok(mode),
+        None => Err(wrong(alloc, "--mode", word, "absolute, tail or any")),
+    }
+}
+
+fn read_target(alloc: Global, matches: &ArgMatches<'_>) -> Result<Option<ReadableSize>, Error> {
+    let Some(word) = matches.get_str("target") else {
+        return Ok(None);
+    };
+    match ReadableSize::parse(word) {
+        Ok(size) => Ok(Some(size)),
+        Err(_) => Err(wrong(alloc, "--target", word, "a size, as 128MB")),
+    }
+}
+
 fn read_options<'a>(alloc: Global, matches: &ArgMatches<'a>) -> Result<Options<'a>, Error> {
-    let named = matches.get_str("mode");
-    let mode = match named {
-        None => RecoveryMode::TolerateTailCorruption,
-        Some(word) => match mode_named(word) {
-            Some(mode) => mode,
-            None => return Err(wrong(alloc, "--mode", word, "absolute, tail or any")),
-        },
-    };
-    let target = match matches.get_str("target") {
-        None => None,
-        Some(word) => match ReadableSize::parse(word) {
-            Ok(size) => Some(size),
-            Err(_) => return Err(wrong(alloc, "--target", word, "a size, as 128MB")),
-        },
-    };
-    Ok(Options {
+    let mode = read_mode(alloc, matches)?;
+    let target = read_target(alloc, matches)?;
+    Ok(options_of(mode, target, matches))
+}
+
+fn options_of<'a>(
+    mode: RecoveryMode,
+    target: Option<ReadableSize>,
+    matches: &ArgMatches<'a>,
+) -> Options<'a> {
+    Options {
         spill: matches.get_str("spill"),
         mode,
-        mode_is_named: named.is_some(),
+        mode_is_named: matches.get_str("mode").is_some(),
         settings: matches.get_str("settings"),
         base: None,
         target,
@@ -121,7 +156,7 @@ fn read_options<'a>(alloc: Global, matches: &ArgMatches<'a>) -> Result<Options<'
         quiet: matches.get_flag("quiet"),
         raw: matches.get_flag("raw"),
         changing: read_changing(matches),
-    })
+    }
 }
 
 fn read_changing(matches: &ArgMatches<'_>) -> Changing {
@@ -145,59 +180,68 @@ fn read_kind<'a>(alloc: Global, matches: &ArgMatches<'a>) -> Result<Option<&'a s
     Ok(kind)
 }
 
-fn read_dump<'a>(alloc: Global, matches: &ArgMatches<'a>) -> Result<Dump<'a>, Error> {
-    Ok(Dump {
+fn read_dump<'a>(alloc: Global, matches: &ArgMatches<'a>) -> Result<Verb<'a>, Error> {
+    let kind = read_kind(alloc, matches)?;
+    Ok(Verb::Look(Look::Dump(Dump {
         file: matches.get_str("FILE"),
         group: matches.get_one("group"),
-        kind: read_kind(alloc, matches)?,
+        kind,
         from: matches.get_one("from"),
         to: matches.get_one("to"),
-    })
+    })))
 }
 
-fn read_import<'a>(alloc: Global, matches: &ArgMatches<'a>) -> Result<Import<'a>, Error> {
+fn read_import<'a>(alloc: Global, matches: &ArgMatches<'a>) -> Result<Verb<'a>, Error> {
+    let kind = read_kind(alloc, matches)?;
     let file = matches.get_str("FILE");
     let folder = matches.get_str("from-folder");
     if let (Some(word), Some(_)) = (file, folder) {
         return Err(wrong(alloc, "FILE", word, "left out beside --from-folder"));
     }
-    Ok(Import {
+    Ok(Verb::Import(Import {
         file,
         folder,
         spill: matches.get_str("from-spill"),
         group: matches.get_one("group"),
-        kind: read_kind(alloc, matches)?,
+        kind,
         replace: matches.get_flag("replace"),
-    })
+    }))
+}
+
+// The words of this name, which may be none.
+fn texts<'a>(
+    alloc: Global,
+    matches: &ArgMatches<'a>,
+    name: &str,
+) -> Result<Vec<&'a str>, AllocError> {
+    match matches.get_strs(name) {
+        Some(words) => words.to_vec(alloc),
+        None => Ok(Vec::new(alloc)),
+    }
 }
 
 fn read_salvage<'a>(
     alloc: Global,
     matches: &ArgMatches<'a>,
     whole: &mut bool,
-) -> Result<Salvage<'a>, Error> {
-    let files = match matches.get_strs("FILE") {
-        Some(files) => files.to_vec(alloc)?,
-        None => Vec::new(alloc),
-    };
-    Ok(Salvage {
-        target: text(matches, "TARGET", whole),
+) -> Result<Verb<'a>, Error> {
+    let target = text(matches, "TARGET", whole);
+    let stale = matches.get_flag("stale");
+    let files = texts(alloc, matches, "FILE")?;
+    Ok(Verb::Salvage(Salvage {
+        target,
         files,
-        stale: matches.get_flag("stale"),
-    })
+        stale,
+    }))
 }
 
-fn read_purge(alloc: Global, matches: &ArgMatches<'_>) -> Result<Purge, Error> {
-    match matches.get_str("FILES") {
-        Some("append") => Ok(Purge::Append),
-        Some("rewrite") => Ok(Purge::Rewrite),
-        Some("stale") => Ok(Purge::Stale),
-        word => Err(wrong(
-            alloc,
-            "FILES",
-            word.unwrap_or(""),
-            "append, rewrite or stale",
-        )),
+fn read_purge<'a>(alloc: Global, matches: &ArgMatches<'_>) -> Result<Verb<'a>, Error> {
+    let word = matches.get_str("FILES").unwrap_or("");
+    match word {
+        "append" => Ok(Verb::Purge(Purge::Append)),
+        "rewrite" => Ok(Verb::Purge(Purge::Rewrite)),
+        "stale" => Ok(Verb::Purge(Purge::Stale)),
+        _ => Err(wrong(alloc, "FILES", word, "append, rewrite or stale")),
     }
 }
 
@@ -302,15 +346,15 @@ fn read_append<'a>(
 ) -> Result<Verb<'a>, Error> {
     let group = read_group(alloc, matches, whole)?;
     let lines = matches.get_str("lines");
-    let values = match matches.get_strs("VALUE") {
-        Some(values) => values.to_vec(alloc)?,
-        None if lines.is_some() => Vec::new(alloc),
-        None => return Err(wrong(alloc, "VALUE", "", "wanted, or --lines FILE")),
-    };
     let at = matches.get_one("at");
-    if group.is_none() && (at.is_some() || !values.is_empty()) {
+    let has_values = matches.get_strs("VALUE").is_some();
+    if !has_values && lines.is_none() {
+        return Err(wrong(alloc, "VALUE", "", "wanted, or --lines FILE"));
+    }
+    if group.is_none() && (at.is_some() || has_values) {
         return Err(wrong(alloc, "GROUP", EACH, "a number beside VALUE or --at"));
     }
+    let values = texts(alloc, matches, "VALUE")?;
     Ok(Verb::Append(group, values, lines, at))
 }
 
@@ -320,49 +364,50 @@ fn read_verb<'a>(
     matches: &ArgMatches<'a>,
     whole: &mut bool,
 ) -> Result<Verb<'a>, Error> {
-    let verb = match sort {
-        Sort::Put => Verb::Put(
-            number(matches, "GROUP", whole),
+    match sort {
+        Sort::Change(change) => Ok(read_change(change, matches, whole)),
+        Sort::Look(look) => Ok(Verb::Look(read_look(look, matches, whole))),
+        Sort::Lines => read_lines(alloc, matches, whole),
+        Sort::Append => read_append(alloc, matches, whole),
+        Sort::Rewrite => read_purge(alloc, matches),
+        Sort::Import => read_import(alloc, matches),
+        Sort::Salvage => read_salvage(alloc, matches, whole),
+        Sort::Dump => read_dump(alloc, matches),
+        Sort::Other(other) => Ok(read_other(other, matches, whole)),
+    }
+}
+
+// A change of one group.
+fn read_change<'a>(sort: ChangeSort, matches: &ArgMatches<'a>, whole: &mut bool) -> Verb<'a> {
+    let group = number(matches, "GROUP", whole);
+    match sort {
+        ChangeSort::Put => Verb::Put(
+            group,
             text(matches, "KEY", whole),
             text(matches, "VALUE", whole),
         ),
-        Sort::Lines => read_lines(alloc, matches, whole)?,
-        Sort::Delete => Verb::Delete(number(matches, "GROUP", whole), text(matches, "KEY", whole)),
-        Sort::Append => read_append(alloc, matches, whole)?,
-        Sort::Compact => Verb::Compact(
-            number(matches, "GROUP", whole),
-            number(matches, "INDEX", whole),
-        ),
-        Sort::Truncate => Verb::Truncate(
-            number(matches, "GROUP", whole),
-            number(matches, "INDEX", whole),
-        ),
-        Sort::Clean => Verb::Clean(number(matches, "GROUP", whole)),
-        Sort::Load => Verb::Load(read_load(matches, whole)),
-        Sort::Rewrite => Verb::Purge(read_purge(alloc, matches)?),
-        Sort::Purge => Verb::Purge(Purge::Expired),
-        Sort::Repair => Verb::Repair,
-        Sort::Import => Verb::Import(read_import(alloc, matches)?),
-        Sort::Settings => Verb::Settings,
-        Sort::Watch => Verb::Watch(read_watch(matches)),
-        Sort::Fork => Verb::Fork(text(matches, "TARGET", whole)),
-        Sort::Salvage => Verb::Salvage(read_salvage(alloc, matches, whole)?),
-        Sort::Dump => Verb::Look(Look::Dump(read_dump(alloc, matches)?)),
-        Sort::Look(look) => Verb::Look(read_look(look, matches, whole)),
-    };
-    Ok(verb)
+        ChangeSort::Delete => Verb::Delete(group, text(matches, "KEY", whole)),
+        ChangeSort::Compact => Verb::Compact(group, number(matches, "INDEX", whole)),
+        ChangeSort::Truncate => Verb::Truncate(group, number(matches, "INDEX", whole)),
+        ChangeSort::Clean => Verb::Clean(group),
+    }
+}
+
+fn read_other<'a>(sort: OtherSort, matches: &ArgMatches<'a>, whole: &mut bool) -> Verb<'a> {
+    match sort {
+        OtherSort::Load => Verb::Load(read_load(matches, whole)),
+        OtherSort::Purge => Verb::Purge(Purge::Expired),
+        OtherSort::Repair => Verb::Repair,
+        OtherSort::Settings => Verb::Settings,
+        OtherSort::Watch => Verb::Watch(read_watch(matches)),
+        OtherSort::Fork => Verb::Fork(text(matches, "TARGET", whole)),
+    }
 }
 
 fn read_look<'a>(sort: LookSort, matches: &ArgMatches<'a>, whole: &mut bool) -> Look<'a> {
     match sort {
-        LookSort::Get => Look::Get(number(matches, "GROUP", whole), text(matches, "KEY", whole)),
+        LookSort::Group(look) => read_group_look(look, matches, whole),
         LookSort::List => Look::List(matches.get_one("GROUP"), matches.get_one("limit")),
-        LookSort::Scan => Look::Scan(number(matches, "GROUP", whole), read_range(matches)),
-        LookSort::Entry => Look::Entry(
-            number(matches, "GROUP", whole),
-            number(matches, "INDEX", whole),
-        ),
-        LookSort::Entries => Look::Entries(number(matches, "GROUP", whole), read_indexes(matches)),
         LookSort::Groups => Look::Groups,
         LookSort::Stat => Look::Stat,
         LookSort::Sum => Look::Sum(matches.get_one("GROUP"), read_indexes(matches)),
@@ -370,6 +415,21 @@ fn read_look<'a>(sort: LookSort, matches: &ArgMatches<'a>, whole: &mut bool) -> 
         LookSort::Consistency => Look::Consistency,
         LookSort::Picture => Look::Picture,
         LookSort::Verify => Look::Verify(read_load(matches, whole)),
+    }
+}
+
+// A look at one group.
+fn read_group_look<'a>(
+    sort: GroupLookSort,
+    matches: &ArgMatches<'a>,
+    whole: &mut bool,
+) -> Look<'a> {
+    let group = number(matches, "GROUP", whole);
+    match sort {
+        GroupLookSort::Get => Look::Get(group, text(matches, "KEY", whole)),
+        GroupLookSort::Scan => Look::Scan(group, read_range(matches)),
+        GroupLookSort::Entry => Look::Entry(group, number(matches, "INDEX", whole)),
+        GroupLookSort::Entries => Look::Entries(group, read_indexes(matches)),
     }
 }
 
@@ -411,6 +471,13 @@ fn command<'a>(alloc: Global) -> Result<Command<'a>, AllocError> {
     let mut subcommands = Vec::new(alloc);
     add_subcommands(alloc, &LOOK_FORMS, &[], &mut subcommands)?;
     add_subcommands(alloc, &CHANGE_FORMS, &CHANGE_OPTIONS, &mut subcommands)?;
+    command_with(alloc, subcommands)
+}
+
+fn command_with<'a>(
+    alloc: Global,
+    subcommands: Vec<Command<'a>>,
+) -> Result<Command<'a>, AllocError> {
     let folder = Word(
         "FOLDER",
         Kind::Text,
@@ -421,8 +488,8 @@ fn command<'a>(alloc: Global) -> Result<Command<'a>, AllocError> {
         .about("Does one command on a log in a folder")
         .after_help(STATUSES)
         .subcommand_required(true)
-        .arg(argument(alloc, folder))?
-        .subcommands(subcommands)
+        .subcommands(subcommands)?
+        .arg(argument(alloc, folder))
 }
 
 fn add_subcommands<'a>(
@@ -450,15 +517,22 @@ fn subcommand<'a>(alloc: Global, form: &Form, options: &[Word]) -> Result<Comman
 
 fn argument<'a>(alloc: Global, word: Word) -> Arg<'a> {
     let Word(name, kind, help) = word;
-    let argument = Arg::new(alloc, name).help(help);
+    let argument = Arg::new(alloc, name)
+        .help(help)
+        .required(kind.is_required());
+    if kind.is_named() {
+        valued(argument.long(name), kind)
+    } else {
+        valued(argument, kind)
+    }
+}
+
+// With the values that a word of this kind has.
+fn valued<'a>(argument: Arg<'a>, kind: Kind) -> Arg<'a> {
     match kind {
-        Kind::Text => argument.required(true),
+        Kind::Text | Kind::OptionalText | Kind::NamedText => argument,
         Kind::OptionalTexts => argument.num_args(1..),
-        Kind::OptionalText => argument,
-        Kind::Number => argument.required(true).value_parser(value_parser!(u64)),
-        Kind::Optional => argument.value_parser(value_parser!(u64)),
-        Kind::Named => argument.long(name).value_parser(value_parser!(u64)),
-        Kind::NamedText => argument.long(name),
-        Kind::Flag => argument.long(name).action(ArgAction::SetTrue),
+        Kind::Number | Kind::Optional | Kind::Named => argument.value_parser(value_parser!(u64)),
+        Kind::Flag => argument.action(ArgAction::SetTrue),
     }
 }

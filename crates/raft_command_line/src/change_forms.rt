@@ -1,13 +1,14 @@
 //! The commands that change a log, as rows of a table.
 
 use crate::forms::{
-    COUNT, DRY_RUN, Form, GROUP, GROUP_OR_EACH, KEY, KIND, Kind, NO_SYNC, SIZE, Sort, Word,
+    COUNT, ChangeSort, DRY_RUN, Form, GROUP, GROUP_OR_EACH, KEY, KIND, Kind, NO_SYNC, OtherSort,
+    SIZE, Sort, Word,
 };
 
 pub(crate) static CHANGE_FORMS: [Form; 12] = [
     Form {
         name: "put",
-        sort: Sort::Put,
+        sort: Sort::Change(ChangeSort::Put),
         about: "Puts a value at a key of a group, and syncs it",
         words: &[
             GROUP,
@@ -39,7 +40,7 @@ pub(crate) static CHANGE_FORMS: [Form; 12] = [
     },
     Form {
         name: "del",
-        sort: Sort::Delete,
+        sort: Sort::Change(ChangeSort::Delete),
         about: "Deletes a key of a group, and syncs that",
         words: &[GROUP, KEY, NO_SYNC],
         example: "Example: raftctl log del 1 name",
@@ -71,7 +72,7 @@ pub(crate) static CHANGE_FORMS: [Form; 12] = [
     },
     Form {
         name: "compact",
-        sort: Sort::Compact,
+        sort: Sort::Change(ChangeSort::Compact),
         about: "Drops the entries of a group below an index, syncs that, and prints how many",
         words: &[
             GROUP,
@@ -82,7 +83,7 @@ pub(crate) static CHANGE_FORMS: [Form; 12] = [
     },
     Form {
         name: "truncate",
-        sort: Sort::Truncate,
+        sort: Sort::Change(ChangeSort::Truncate),
         about: "Removes the entries of a group from an index on, syncs that, and prints how many and the last index that stays",
         words: &[
             GROUP,
@@ -126,14 +127,14 @@ pub(crate) static CHANGE_FORMS: [Form; 12] = [
     },
     Form {
         name: "clean",
-        sort: Sort::Clean,
+        sort: Sort::Change(ChangeSort::Clean),
         about: "Drops all entries and keys of a group, and syncs that",
         words: &[GROUP, NO_SYNC],
         example: "Example: raftctl log clean 1",
     },
     Form {
         name: "load",
-        sort: Sort::Load,
+        sort: Sort::Other(OtherSort::Load),
         about: "Puts keys numbered from 0 into group 1, and prints `synced I` after each sync",
         words: &[
             COUNT,
@@ -167,14 +168,14 @@ pub(crate) static CHANGE_FORMS: [Form; 12] = [
     },
     Form {
         name: "purge",
-        sort: Sort::Purge,
+        sort: Sort::Other(OtherSort::Purge),
         about: "Drops log files as `rewrite` does, as far as the settings' thresholds ask for it; prints the groups to compact before",
         words: &[DRY_RUN],
         example: "Example: raftctl log purge",
     },
     Form {
         name: "repair",
-        sort: Sort::Repair,
+        sort: Sort::Other(OtherSort::Repair),
         about: "Opens the log in --mode, and keeps what that cuts off in files beside; with --cut moves files aside that it passes over",
         words: &[DRY_RUN],
         example: "Example: raftctl log repair --mode any",

@@ -87,10 +87,16 @@ fn add_all(script: &mut String) -> Result<(), AllocError> {
     script.push_str(END)
 }
 
+fn add_parts(parts: &[&str], script: &mut String) -> Result<(), AllocError> {
+    for part in parts {
+        script.push_str(part)?;
+    }
+    Ok(())
+}
+
 fn add_names(forms: &[Form], script: &mut String) -> Result<(), AllocError> {
     for form in forms {
-        script.push_str(form.name)?;
-        script.push(' ')?;
+        add_parts(&[form.name, " "], script)?;
     }
     Ok(())
 }
@@ -104,9 +110,7 @@ fn add_forms(forms: &[Form], options: &[Word], script: &mut String) -> Result<()
 
 // A line of the words that begin with `--` of a command.
 fn add_form(form: &Form, options: &[Word], script: &mut String) -> Result<(), AllocError> {
-    script.push_str("    ")?;
-    script.push_str(form.name)?;
-    script.push_str(") offered=\"")?;
+    add_parts(&["    ", form.name, ") offered=\""], script)?;
     add_words(form.words, script)?;
     add_words(options, script)?;
     add_words(&OPTIONS, script)?;
@@ -122,12 +126,9 @@ fn add_words(words: &[Word], script: &mut String) -> Result<(), AllocError> {
 
 fn add_word(word: Word, script: &mut String) -> Result<(), AllocError> {
     let Word(name, kind, _) = word;
-    match kind {
-        Kind::Named | Kind::NamedText | Kind::Flag => {
-            script.push_str("--")?;
-            script.push_str(name)?;
-            script.push_str(" ")
-        }
-        _ => Ok(()),
+    if kind.is_named() {
+        add_parts(&["--", name, " "], script)
+    } else {
+        Ok(())
     }
 }

@@ -7,12 +7,16 @@ use std::alloc::{AllocError, Global};
 pub fn printable(alloc: Global, text: &str) -> Result<String, AllocError> {
     let mut shown = String::new(alloc);
     for each in text.chars() {
-        if each.is_control() {
-            let code = u32::from(each);
-            shown.push_str(format!(in alloc; "\\x{code:02x}")?.as_str())?;
-        } else {
-            shown.push(each)?;
-        }
+        add(alloc, each, &mut shown)?;
     }
     Ok(shown)
+}
+
+fn add(alloc: Global, each: char, shown: &mut String) -> Result<(), AllocError> {
+    if !each.is_control() {
+        return shown.push(each);
+    }
+    let code = u32::from(each);
+    let spelled = format!(in alloc; "\\x{code:02x}")?;
+    shown.push_str(spelled.as_str())
 }

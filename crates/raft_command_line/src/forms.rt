@@ -13,34 +13,43 @@ pub(crate) struct Form {
 /// What a command does.
 #[derive(Clone, Copy)]
 pub(crate) enum Sort {
-    Put,
+    Change(ChangeSort),
+    Look(LookSort),
     Lines,
-    Delete,
     Append,
+    Rewrite,
+    Import,
+    Salvage,
+    Dump,
+    Other(OtherSort),
+}
+
+/// How a command changes one group.
+#[derive(Clone, Copy)]
+pub(crate) enum ChangeSort {
+    Put,
+    Delete,
     Compact,
     Truncate,
     Clean,
+}
+
+/// What a command does whose words are taken as they are.
+#[derive(Clone, Copy)]
+pub(crate) enum OtherSort {
     Load,
-    Rewrite,
     Purge,
     Repair,
-    Import,
     Settings,
-    Fork,
-    Salvage,
     Watch,
-    Dump,
-    Look(LookSort),
+    Fork,
 }
 
 /// What a command looks at.
 #[derive(Clone, Copy)]
 pub(crate) enum LookSort {
-    Get,
+    Group(GroupLookSort),
     List,
-    Scan,
-    Entry,
-    Entries,
     Groups,
     Stat,
     Sum,
@@ -48,6 +57,15 @@ pub(crate) enum LookSort {
     Consistency,
     Picture,
     Verify,
+}
+
+/// What a command looks at of one group.
+#[derive(Clone, Copy)]
+pub(crate) enum GroupLookSort {
+    Get,
+    Scan,
+    Entry,
+    Entries,
 }
 
 /// A word's name, what it is, and what its help says.
@@ -69,6 +87,17 @@ pub(crate) enum Kind {
     /// A text after these.
     NamedText,
     Flag,
+}
+
+impl Kind {
+    pub(crate) fn is_required(self) -> bool {
+        matches!(self, Kind::Text | Kind::Number)
+    }
+
+    /// Whether `--` and its name precede it.
+    pub(crate) fn is_named(self) -> bool {
+        matches!(self, Kind::Named | Kind::NamedText | Kind::Flag)
+    }
 }
 
 /// With what the program ends.

@@ -1,13 +1,14 @@
 //! The commands that leave a log as it is, as rows of a table.
 
 use crate::forms::{
-    COUNT, DRY_RUN, Form, GROUP, KEY, KIND, Kind, LIMIT, LookSort, RAW, SIZE, Sort, Word,
+    COUNT, DRY_RUN, Form, GROUP, GroupLookSort, KEY, KIND, Kind, LIMIT, LookSort, OtherSort, RAW,
+    SIZE, Sort, Word,
 };
 
 pub(crate) static LOOK_FORMS: [Form; 17] = [
     Form {
         name: "get",
-        sort: Sort::Look(LookSort::Get),
+        sort: Sort::Look(LookSort::Group(GroupLookSort::Get)),
         about: "Prints the value at a key; with status 3 where there is none",
         words: &[GROUP, KEY, RAW],
         example: "Example: raftctl log get 1 name --raw > value",
@@ -24,7 +25,7 @@ pub(crate) static LOOK_FORMS: [Form; 17] = [
     },
     Form {
         name: "scan",
-        sort: Sort::Look(LookSort::Scan),
+        sort: Sort::Look(LookSort::Group(GroupLookSort::Scan)),
         about: "Prints a line for each key of a group in a range: itself and its value",
         words: &[
             GROUP,
@@ -41,7 +42,7 @@ pub(crate) static LOOK_FORMS: [Form; 17] = [
     },
     Form {
         name: "entry",
-        sort: Sort::Look(LookSort::Entry),
+        sort: Sort::Look(LookSort::Group(GroupLookSort::Entry)),
         about: "Prints the value of an entry; with status 3 where there is none",
         words: &[
             GROUP,
@@ -52,7 +53,7 @@ pub(crate) static LOOK_FORMS: [Form; 17] = [
     },
     Form {
         name: "entries",
-        sort: Sort::Look(LookSort::Entries),
+        sort: Sort::Look(LookSort::Group(GroupLookSort::Entries)),
         about: "Prints a line for each entry of a group: its index and its value",
         words: &[
             GROUP,
@@ -147,7 +148,7 @@ pub(crate) static LOOK_FORMS: [Form; 17] = [
     },
     Form {
         name: "watch",
-        sort: Sort::Watch,
+        sort: Sort::Other(OtherSort::Watch),
         about: "Prints once a second what a running log does: its files, bytes and records, the groups that grow and the dropped files; it leaves the writer its lock. On a terminal it draws a picture, with --json each look is an object",
         words: &[
             Word(
@@ -177,14 +178,14 @@ pub(crate) static LOOK_FORMS: [Form; 17] = [
     },
     Form {
         name: "settings",
-        sort: Sort::Settings,
+        sort: Sort::Other(OtherSort::Settings),
         about: "Prints the settings in force, in TOML",
         words: &[],
         example: "Example: raftctl log settings --target 64MB > log.toml",
     },
     Form {
         name: "fork",
-        sort: Sort::Fork,
+        sort: Sort::Other(OtherSort::Fork),
         about: "Copies the log files that an opening keeps into a folder, and syncs them; statuses 4, 5 and 6 as check, if the copy is not the whole log",
         words: &[Word(
             "TARGET",

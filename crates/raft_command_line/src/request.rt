@@ -258,10 +258,9 @@ impl<'a> Options<'a> {
 
     /// The folders whose log files are read, by their paths from the first one.
     pub fn folders(&self, alloc: Global) -> Result<Vec<&'a str>, AllocError> {
-        let mut folders = vec![in alloc; ""]?;
-        if let Some(spill) = self.spill {
-            folders.push(spill)?;
-        }
-        Ok(folders)
+        Ok(match self.spill {
+            Some(spill) => vec![in alloc; "", spill]?,
+            None => vec![in alloc; ""]?,
+        })
     }
 }

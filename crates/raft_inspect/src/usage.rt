@@ -34,11 +34,21 @@ pub struct GroupUsage {
 }
 
 /// What is referred to of both queues, and of each group, in the groups' order.
-#[derive(Drop)]
 pub struct LogUsage {
     pub rewrite: QueueUsage,
     pub append: QueueUsage,
     pub groups: Vec<GroupUsage>,
+}
+
+// One call in a proof that drops it; derived, it would be one of each field (docs/DECISIONS.md).
+impl Drop for LogUsage {
+    fn drop(self) {
+        let LogUsage {
+            rewrite: _rewrite,
+            append: _append,
+            groups: _groups,
+        } = self;
+    }
 }
 
 /// What an opening that tolerates broken bytes refers to of the files of both queues.

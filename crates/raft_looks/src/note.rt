@@ -4,8 +4,9 @@ use crate::faults::told;
 use crate::folder::Folder;
 use anyhow::Result;
 use raft_disk::{OpenFault, SpanNote};
+use raft_inspect::QueueFiles;
 use raft_opening_plan::Known;
-use raft_records::LogQueue;
+use raft_records::{FileId, LogQueue};
 
 impl Folder {
     /// The note, read before and after the names; none if a writer changed it meanwhile.
@@ -28,6 +29,23 @@ impl Folder {
             Err(OpenFault::Memory) => Err(told(&self.rt, &OpenFault::Memory)),
             Err(_) => Ok(None),
         }
+    }
+
+    /// The files that a purge had dropped, as the note says, and that an opening passes over.
+    pub fn left_over(&self) -> Result<Vec<FileId>> {
+        let mut left_over = Vec::new(self.alloc);
+        for queue in &[LogQueue::Append, LogQueue::Rewrite] {
+            let files = self.files_of(*queue)?;
+            let passed = QueueFiles::passed_by_number(&files);
+            if let Some(known) = self.known(*queue)? {
+                for file in files.get(..passed).unwrap_or(&[]) {
+                    if known.left_over.contains(&file.id.seq) {
+                        left_over.push(file.id)?;
+                    }
+                }
+            }
+        }
+        Ok(left_over)
     }
 
     /// What the note says of a queue; none without a note, and if another program wrote to the log
@@ -54,6 +72,7 @@ impl Folder {
             missing: report.missing,
             strays: report.strays,
             left_over: report.left_over,
+            has_lost: report.has_lost,
         }))
     }
 }

@@ -119,7 +119,7 @@ fn read_records<S: PartSource>(
 }
 
 // Adds what was read of a part, and says how many bytes are to be read next, if any.
-fn go_on(check: &mut FileCheck, read: FileCheck, header: &[u8], part: &[u8]) -> Option<usize>
+fn go_on(check: &mut FileCheck, mut read: FileCheck, header: &[u8], part: &[u8]) -> Option<usize>
     requires { check.old.end + length part.now ≤ check.old.len }
     ensures added { check.new ≡ record check.old {
       records = min (check.old.records + read.records) (2 ^ 64 - 1);
@@ -133,7 +133,7 @@ fn go_on(check: &mut FileCheck, read: FileCheck, header: &[u8], part: &[u8]) -> 
     let read_len = read.end.saturating_sub(header.len()).min(part.len());
     check.records = check.records.saturating_add(read.records);
     check.end += read_len;
-    check.stop = read.stop;
+    check.stop = read.stop.take();
     let left = size - check.end;
     let wanted = wanted_behind(&part[read_len..], left)?;
     Some(wanted.max(PART_LEN).min(left))

@@ -61,7 +61,7 @@ impl Factory<Meeting> for Meetings {
     }
 }
 
-fn meetings(alloc: Global) -> Result<Meetings, AllocError> {
+fn make_meetings(alloc: Global) -> Result<Meetings, AllocError> {
     Ok(Meetings {
         begun: Arc::new(alloc, AtomicU64::new(0))?,
     })
@@ -97,7 +97,7 @@ fn opened<F: Failing>(alloc: Global, is_alone: bool) -> Result<DualPipesBuilder<
 
 /// Whether the machines of two Append files meet, if both queues are read or this one by itself.
 pub(crate) fn meet<R: Threads + Sync, F: Failing>(rt: &R, alloc: Global, is_alone: bool) -> bool {
-    let Ok(meetings) = meetings(alloc) else {
+    let Ok(meetings) = make_meetings(alloc) else {
         return false;
     };
     let opened: Result<DualPipesBuilder<F>, Fault> = opened(alloc, is_alone);

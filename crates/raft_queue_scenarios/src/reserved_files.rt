@@ -141,7 +141,7 @@ fn have_lengths<F: FileSystem>(fs: &mut F, files: &[(&str, Option<usize>)]) -> b
 }
 
 // Makes files ahead over the reserved ones that are found.
-fn prefilled<F: FileSystem>(
+fn made_ahead<F: FileSystem>(
     alloc: Global,
     fs: &mut F,
     folders: &LogFolders,
@@ -159,7 +159,7 @@ fn prefilled<F: FileSystem>(
 fn comes_to<F: FileSystem>(alloc: Global, fs: &mut F, row: &Prefilled) -> bool {
     match both_folders(alloc) {
         Ok(folders) => {
-            is_answer(prefilled(alloc, fs, &folders, row), &row.spare)
+            is_answer(made_ahead(alloc, fs, &folders, row), &row.spare)
                 && have_lengths(fs, row.after)
         }
         Err(_) => false,
