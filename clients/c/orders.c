@@ -97,6 +97,7 @@ static void count_sync(struct parts_counts *counts, uint64_t ns) {
 }
 
 static int sync_file(raftlog *log) {
+    parts_catch_up_spans(log);
     uint64_t began = parts_now_ns();
     int error = fdatasync(log->file) ? errno : 0;
     struct stat found;
