@@ -264,6 +264,7 @@ class Plans:
             ran = self.run(folder, "check")
             found = {line.split()[1] for line in lines_of(ran.stdout)}
             self.expect(f"noted, {case} gone: new files hide nothing: {ran.stdout}", found == kinds)
+            self.hides_nothing(f"noted, {case} gone", folder, kinds)
             ran = self.run(folder, "repair", "--cut")
             self.expect(f"noted, {case} gone: accepted: {ran.stderr}", ran.returncode == 0 and self.run(folder, "check").returncode == 0)
         folder, _ = self.numbered("noted-stray")
@@ -273,6 +274,18 @@ class Plans:
         ran = self.run(folder, "repair", "--cut")
         self.expect(f"a stray with a header: {ran.stderr}", ran.returncode == 0 and os.path.exists(stray + ".stray"))
         self.expect("then all is there", self.run(folder, "check").returncode == 0)
+
+    def hides_nothing(self, case, folder, kinds):
+        """Nor do files of another program, after which the note is old."""
+        last = max(int(name[:16]) for name in logs_in(folder) if name.endswith(".raftlog"))
+        others = [os.path.join(folder, name_of(last + more)) for more in (1, 2)]
+        for path in others:
+            shutil.copy(os.path.join(folder, name_of(1, "rewrite")), path)
+        ran = self.run(folder, "check")
+        found = {line.split()[1] for line in lines_of(ran.stdout)}
+        self.expect(f"{case}: another program's files: {ran.stdout}", found == kinds and ran.returncode == (6 if kinds else 0))
+        for path in others:
+            os.unlink(path)
 
     def gap_without_note(self):
         """A refused change notes no gap as harmless."""

@@ -164,7 +164,7 @@ impl Folder {
             None => "",
         };
         for queue in &[LogQueue::Append, LogQueue::Rewrite] {
-            if let Some(known) = self.known(*queue)? {
+            if let Some(known) = self.known_losses(*queue)? {
                 planner.add_missing(*queue, &known, spill, plan)?;
             }
         }
