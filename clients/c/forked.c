@@ -121,7 +121,9 @@ static void living_child(const char *folder) {
     CHECK(read(started[0], text, 1) == 0 && !close(started[0]));
     CHECK(child > 0 && raftlog_close(log) == 0);
     log = open_with(folder, SMALL_FILES);
-    CHECK(!kill(child, SIGKILL) && status_of(child) && raftlog_close(log) == 0);
+    int status;
+    CHECK(!kill(child, SIGKILL) && waitpid(child, &status, 0) == child && WIFSIGNALED(status));
+    CHECK(raftlog_close(log) == 0);
 
     int ready[2];
     pid_t of_child;

@@ -1,5 +1,5 @@
 /* The note of a log's file numbers: `noted FOLDER`. After no kill and no failed call an opening reports a file as missing.
- * Files that someone takes away, or puts there, are reported until they are accepted. */
+ * Files that someone takes away, or puts there, are reported by each later opening until that is accepted. */
 #include "faults.h"
 #include "keys.h"
 #include "parts.h"
@@ -120,7 +120,7 @@ static void lose(void) {
     }
 }
 
-/* What was missing at an earlier opening is reported until it is accepted, whatever the log does. */
+/* What was missing at an earlier opening is reported by later ones, until it is accepted. */
 static void is_remembered(void) {
     raftlog_lost lost[ROOM];
     char text[TEXT_ROOM];
@@ -188,6 +188,20 @@ static void is_stale(void) {
     run("mv '%s.spans' '%s/SPANS'", folder, folder);
     CHECK(lost_in(DELETING, lost) >= 1 && lost[0].kind == RAFTLOG_NOTE_STALE);
     CHECK(lost_in(DELETING, NULL) == 0);
+
+    /* A stale note remembers what was missing. */
+    uint64_t first, last;
+    empty();
+    work(DELETING);
+    find(&first, &last);
+    take_away(first);
+    raftlog *log = open_with(folder, DELETING);
+    CHECK(raftlog_must_rewrite_append_queue(log, NULL) == 0 && raftlog_close(log) == 0);
+    run("cp '%s/SPANS' '%s.spans'", folder, folder);
+    work(DELETING);
+    run("mv '%s.spans' '%s/SPANS'", folder, folder);
+    CHECK(lost_in(DELETING, lost) >= 2 && lost[0].kind == RAFTLOG_LOST_BEFORE && lost[1].kind == RAFTLOG_NOTE_STALE);
+    is_remembered();
 }
 
 static void put_note(const char *bytes, size_t len) {
@@ -402,7 +416,8 @@ static void settings(void) {
     CHECK(lost_in(INDENTED, NULL) == 0 && is_noted());
     CHECK(lost_in(DELETING, lost) == 1 && is_lost(lost, RAFTLOG_FILE_MISSING, first, first));
     raftlog *log = open_with(folder, INDENTED);
-    CHECK(raftlog_must_rewrite_append_queue(log, NULL) == 0 && !is_noted());
+    for (int i = 0; i < MANY; i++) CHECK(put_key(log, 'm', i) == 0);
+    CHECK(!is_noted() && raftlog_must_rewrite_append_queue(log, NULL) == 0 && !is_noted());
     CHECK(raftlog_close(log) == 0 && lost_in(DELETING, NULL) == 0 && is_noted());
 }
 

@@ -97,6 +97,7 @@ static void count_sync(struct parts_counts *counts, uint64_t ns) {
 }
 
 static int sync_file(raftlog *log) {
+    parts_catch_up_spans(log);
     uint64_t began = parts_now_ns();
     int error = fdatasync(log->file) ? errno : 0;
     struct stat found;
@@ -156,24 +157,16 @@ static const char *text_of(char *room, const uint8_t *bytes, size_t len) {
     return room;
 }
 
-/* The path of an order, ended by a NUL. Of a change of the open file it is the log's own text: most orders are. */
-static inline const char *path_of(const raftlog *log, const struct order *order, char room[PARTS_PATH_ROOM]) {
-    bool is_open = order->kind >= WRITE && log->path && order->path_len == log->path_len
-                   && !memcmp(order->path, log->path, log->path_len);
-    return is_open ? log->path : text_of(room, order->path, order->path_len);
+/* Whether it changes the file that is open, as most orders do. */
+static inline bool is_of_open(const raftlog *log, const struct order *order) {
+    return order->kind >= WRITE && log->path && order->path_len == log->path_len
+           && !memcmp(order->path, log->path, log->path_len);
 }
 
-static int carry_out(raftlog *log, const struct order *order, const char *path) {
-    if (order->kind < WRITE) {
-        char to[PARTS_PATH_ROOM];
-        if (order->len >= sizeof to) return EINVAL;
-        return order_names(log, order->kind, path, text_of(to, order->bytes, order->len));
-    }
-    int error = open_file(log, path);
-    if (error) return error;
+static inline int change_open(raftlog *log, const struct order *order) {
     switch (order->kind) {
     case WRITE: return write_file(log, order->bytes, order->len, order->number);
-    case TRUNCATE: return cut_file(log, path, order->number);
+    case TRUNCATE: return cut_file(log, log->path, order->number);
     case ALLOCATE: return resize(log, order->number, false);
     case SYNC: return sync_file(log);
     default: return EINVAL;
@@ -254,15 +247,30 @@ static int leave_deleted(raftlog *log, size_t place, const char *path) {
     return parts_leave_span(log, last);
 }
 
-static int obey_one(raftlog *log, size_t *place) {
-    struct order order;
+static int change_names(raftlog *log, size_t place, const struct order *order, const char *path) {
+    char to[PARTS_PATH_ROOM];
+    if (order->len >= sizeof to) return EINVAL;
+    int error = order->kind == DELETE ? leave_deleted(log, place, path) : 0;
+    return error ? error : order_names(log, order->kind, path, text_of(to, order->bytes, order->len));
+}
+
+/* An order on names, or on another file than the open one. Apart, since it has rooms for paths. */
+static __attribute__((noinline)) int obey_elsewhere(raftlog *log, size_t place, const struct order *order) {
     char room[PARTS_PATH_ROOM];
+    const char *path = text_of(room, order->path, order->path_len);
+    int error = order->kind < WRITE ? change_names(log, place, order, path) : open_file(log, path);
+    if (!error && order->kind >= WRITE) error = change_open(log, order);
+    if (error) break_at(log, kind_text(order->kind), path, error);
+    return error;
+}
+
+static inline int obey_one(raftlog *log, size_t *place) {
+    struct order order;
     if (!read_order(log, place, &order)) return EINVAL;
     if (order.kind == WRITE && *place < log->given) join(log, place, &order);
-    const char *path = path_of(log, &order, room);
-    int error = order.kind == DELETE ? leave_deleted(log, *place, path) : 0;
-    if (!error) error = carry_out(log, &order, path);
-    if (error) break_at(log, kind_text(order.kind), path, error);
+    if (!is_of_open(log, &order)) return obey_elsewhere(log, *place, &order);
+    int error = change_open(log, &order);
+    if (error) break_at(log, kind_text(order.kind), log->path, error);
     return error;
 }
 

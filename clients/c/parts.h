@@ -303,6 +303,8 @@ int parts_judge_spans(raftlog *log);
 bool parts_tell_lost(const raftlog *log, char *text, size_t room);
 /* Before a file is made at a path. */
 void parts_replace_span(raftlog *log, const char *path);
+/* Writes again what was refused then. */
+void parts_catch_up_spans(raftlog *log);
 /* After a file was made at a path. A refused note leaves the one before, which is true. */
 void parts_add_span(raftlog *log, const char *path);
 /* Before the file at a path, and all of its queue with smaller numbers, are deleted or get other names; of the last file

@@ -14,8 +14,9 @@
  * engine's own, and so is the key "\xffonce", at which it keeps a group's number; reads do not return them.
  *
  * Ownership. A log, a batch and a buffer are the caller's from the call that makes them to the call that frees them. A
- * call copies its arguments before it returns. A result is in a buffer of the caller's until the next call that gets
- * that buffer; entries, keys and values that are taken from it point into it.
+ * call copies its arguments before it returns; none of them may be in the buffer that gets its result. A result is in
+ * a buffer of the caller's until the next call that gets that buffer; entries, keys and values that are taken from it
+ * point into it.
  *
  * Threads. Many threads may use a log. A batch, a buffer and what points into it belong to one thread at a time. A
  * signal's handler may use no log. `pthread_cancel`: a change can be cancelled at its beginning, before anything is
@@ -24,7 +25,7 @@
  *
  * Processes. In a child that was forked each call on a log of the parent fails as RAFTLOG_FAILED and does nothing.
  * `raftlog_close` there frees only memory, and `raftlog_missing` and `raftlog_cuts` return what the parent's opening
- * found. The child does not keep the parent's folder locked. Its own logs are as any.
+ * found. The child does not keep the parent's folder locked. Its own logs work as usual.
  *
  * Folders. The log holds its folder open until the close, and reaches its files through it. So it continues in its own
  * folder if the folder is moved, if another one gets its name, or if the program changes its working directory. A link
@@ -122,7 +123,8 @@ enum {
     RAFTLOG_NOT_PLAIN = 31,
     /* The folder cannot be made, locked or read. */
     RAFTLOG_FOLDER = 32,
-    /* A log file is missing, or does not follow on the others (`raftlog_open_whole`). The text names it. */
+    /* A log file is missing or was, or does not follow on the others (`raftlog_open_whole`). The text names one that is
+     * missing or does not follow. */
     RAFTLOG_LOST = 33
 };
 
@@ -222,8 +224,8 @@ typedef struct {
 
 /* Returns how many such facts the opening found, and stores the first of them, at most `room`, in `lost`, which may be
  * NULL if `room` is 0. `size` is sizeof(raftlog_lost), as for `raftlog_stats`. After a crash or a kill there are none.
- * Later openings report them too, until the files are put back or the loss is accepted. Without a note nothing is
- * reported. */
+ * Later openings report them too, until the files are put back or the note is gone: accepted, or removed since a
+ * new one was refused. Without a note nothing is reported. */
 size_t raftlog_missing(raftlog *log, raftlog_lost *lost, size_t room, size_t size);
 
 /* As `raftlog_open`, but fails as RAFTLOG_LOST if a file is missing or was, or is a stray. It has changed no log file
@@ -291,8 +293,9 @@ const char *raftlog_code_text(int code);
 /* ---- memory
  *
  * The index is in memory: 40 bytes an entry, and keys with their values. So is what was written since the last sync,
- * and during a purge twice RAFTLOG_PURGE_BYTES. The rest of the log files is mapped: the system takes that memory back
- * when it needs it, and reads it again from the files on demand. */
+ * and during a purge twice RAFTLOG_PURGE_BYTES, and for each item of a batch room as for the longest value that it had in
+ * this purge. The rest of the log files is mapped: the system takes that memory back when it needs it, and reads it again
+ * from the files on demand. */
 
 /* By default the program ends by SIGBUS if a part of a file cannot be read again: the disk fails, or another program
  * cut the file. After this call, once for the process, a read that needs this part fails as RAFTLOG_CORRUPTION, and so

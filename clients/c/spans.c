@@ -37,6 +37,7 @@ struct numbers {
 struct parts_spans {
     int file;      /* -1: there is no note */
     bool is_silent; /* no note is written: something else has its name, or no span is known */
+    bool is_behind; /* a note that a missing file is lost was refused */
     struct span queues[QUEUES];
     char spill[SPILL_ROOM]; /* the second folder's path from the log's; empty if there is none */
     uint64_t count;
@@ -142,8 +143,9 @@ static int report(struct parts_spans *spans, int queue) {
     const struct span *span = &spans->queues[queue];
     const struct numbers *found = &spans->found[queue];
     uint64_t end = end_of(span, found), next = front_of(span, found);
-    if (is_stale(span, found, end)) return add_lost(spans, RAFTLOG_NOTE_STALE, queue, span->first, span->last);
     int error = span->has_lost ? add_lost(spans, RAFTLOG_LOST_BEFORE, queue, span->first, span->last) : 0;
+    if (!error && is_stale(span, found, end))
+        return add_lost(spans, RAFTLOG_NOTE_STALE, queue, span->first, span->last);
     for (size_t i = 0; i < found->count && !error; i++) {
         uint64_t number = found->all[i];
         if (number > end) error = add_lost(spans, RAFTLOG_FILE_STRAY, queue, number, number);
@@ -171,6 +173,7 @@ static bool find_span(const struct span *noted, const struct numbers *found, str
     *span = (struct span){front_of(noted, found), end, false, noted->has_lost};
     if (!is_stale(noted, found, end)) return true;
     *span = span_of(found);
+    span->has_lost = noted->has_lost;
     return span->first == found->all[0];
 }
 
@@ -236,21 +239,24 @@ static int read_note(struct parts_spans *spans, int fd) {
     return 0;
 }
 
-/* A note that can't be opened or read is removed, as if there was none. If that fails, none is written. */
-static void open_note(raftlog *log) {
+/* A note that can't be opened or read is removed, as if there was none. If that fails, none is written. A want of memory or
+ * of descriptors says nothing of the note: it is returned. */
+static int open_note(raftlog *log) {
     struct parts_spans *spans = log->spans;
     struct stat is;
     int found = fstatat(log->root, SPANS, &is, AT_SYMLINK_NOFOLLOW);
-    if (found && errno == ENOENT) return;
+    if (found && errno == ENOENT) return 0;
     if (!found && (!S_ISREG(is.st_mode) || is.st_nlink != 1)) {
         spans->is_silent = true;
-        return;
+        return 0;
     }
     int fd = found ? -1 : openat(log->root, SPANS, O_RDWR | O_NOFOLLOW | O_CLOEXEC);
     int error = fd < 0 ? errno : read_note(spans, fd);
     if (!error && !spans->is_silent) spans->file = fd;
     else if (fd >= 0) close(fd);
+    if (error == ENOMEM || error == EMFILE || error == ENFILE) return error;
     if (error) spans->is_silent = remove_note(log) != 0;
+    return 0;
 }
 
 /* ---- which files are the log's */
@@ -303,7 +309,7 @@ static int compare(const void *one, const void *other) {
 
 /* ---- what the other files call */
 
-/* If the second folder isn't known, the note stays until a name changes: then it is removed. */
+/* If the second folder isn't known, the note stays until a log file is made, deleted or renamed: then it is removed. */
 int parts_begin_spans(raftlog *log, const char *settings) {
     struct parts_spans *spans = calloc(1, sizeof *spans);
     char spill[sizeof spans->spill];
@@ -312,7 +318,8 @@ int parts_begin_spans(raftlog *log, const char *settings) {
     spans->file = -1;
     spans->synced = 1;
     spans->queues[APPEND] = spans->queues[REWRITE] = empty;
-    open_note(log);
+    int error = open_note(log);
+    if (error) return error;
     if (find_spill(settings ? settings : "", spill, sizeof spill)) memcpy(spans->spill, spill, sizeof spill);
     else spans->is_silent = true;
     return 0;
@@ -356,7 +363,7 @@ int parts_judge_spans(raftlog *log) {
     return 0;
 }
 
-/* Whether a file was missing at the opening, of a queue and between two numbers. */
+/* Whether the opening missed a file of a queue between two numbers. */
 static bool was_missing(const struct parts_spans *spans, int queue, uint64_t first, uint64_t last) {
     for (size_t i = 0; i < spans->lost_count; i++) {
         const raftlog_lost *lost = &spans->lost[i];
@@ -366,15 +373,19 @@ static bool was_missing(const struct parts_spans *spans, int queue, uint64_t fir
     return false;
 }
 
-/* A missing file can't be put back once a file has its number, or a later missing one's. */
+/* A missing file can't be put back once a file has its number, or a smaller one. */
 void parts_replace_span(raftlog *log, const char *path) {
+    struct parts_spans *spans = log->spans;
     uint64_t number;
-    int queue = queue_of(log->spans, path, &number);
-    if (queue < 0 || !was_missing(log->spans, queue, number, UINT64_MAX)) return;
-    struct span *span = &log->spans->queues[queue];
-    bool is_new = !span->has_lost;
-    span->has_lost = true;
-    if (is_new) write_note(log);
+    int queue = queue_of(spans, path, &number);
+    if (queue >= 0 && spans->is_silent) write_or_remove(log);
+    if (queue < 0 || !was_missing(spans, queue, number, UINT64_MAX) || spans->queues[queue].has_lost) return;
+    spans->queues[queue].has_lost = true;
+    spans->is_behind = write_note(log) != 0;
+}
+
+void parts_catch_up_spans(raftlog *log) {
+    if (log->spans->is_behind) log->spans->is_behind = write_note(log) != 0;
 }
 
 /* A later number that doesn't follow changes nothing, so that such files are still reported. An earlier one comes if all
@@ -413,8 +424,14 @@ int parts_leave_span(raftlog *log, const char *path) {
 bool parts_tell_lost(const raftlog *log, char *text, size_t room) {
     const struct parts_spans *spans = log->spans;
     const raftlog_lost *lost = NULL;
-    for (size_t i = 0; i < spans->lost_count && !lost; i++)
-        if (spans->lost[i].kind != RAFTLOG_NOTE_STALE) lost = &spans->lost[i];
+    for (size_t i = 0; i < spans->lost_count; i++) {
+        const raftlog_lost *other = &spans->lost[i];
+        /* A file that can be put back comes first. */
+        bool is_file = other->kind == RAFTLOG_FILE_MISSING || other->kind == RAFTLOG_FILE_STRAY;
+        if (is_file) lost = other;
+        if (is_file) break;
+        if (other->kind == RAFTLOG_LOST_BEFORE) lost = other;
+    }
     if (!lost) return false;
     const char *end = lost->is_rewrite ? "rewrite" : "raftlog";
     const char *what = lost->kind == RAFTLOG_FILE_STRAY ? "does not follow on the files before it" : "is missing";

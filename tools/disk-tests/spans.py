@@ -39,7 +39,7 @@ class Span:
         """The span with which an opening goes on; None if none is known: a file may be missing, and there is no true note."""
         if self.is_stale(files):
             run = kept(files)
-            return Span(run[0], run[-1]) if run[0] == min(files) else None
+            return Span(run[0], run[-1], has_lost=self.has_lost) if run[0] == min(files) else None
         return Span(self.front(files), self.end(files), has_lost=self.has_lost)
 
     def add(self, number):
@@ -127,9 +127,9 @@ def losses_in(folder):
     spans, spill = noted
     told = []
     for span, end in zip(spans, ENDS):
-        missing, strays, _, is_stale = span.report(numbers_in(folder, spill, end))
+        missing, strays, _, _ = span.report(numbers_in(folder, spill, end))
         if missing or strays:
             told.append(f'{end}: missing {missing}, strays {strays}')
-        if span.has_lost and not is_stale:
+        if span.has_lost:
             told.append(f'{end}: missing before')
     return '; '.join(told) or None

@@ -11,7 +11,8 @@ The model fails if a note ever reports as missing, stray or lost before what onl
 writes no notes: what is reported falsely there is counted. It counts what is reported of files that are taken away, or put
 there, between two calls. The controls must report something false: a note that is written too late, or that is not synced.
 In the runs `lossy` files are taken away for good: from the first opening that reports one on, each opening must report a loss.
-Without the mark of losses some openings must forget one. Status: 0 if all this is so."""
+Without the mark of losses some openings must forget one. Beside a program that writes no notes a mark stays as long as the
+note. Status: 0 if all this is so."""
 import argparse
 import itertools
 import random
@@ -20,7 +21,7 @@ import sys
 from spans import Span, kept
 
 RUNS = ('disk', 'c', 'mixed', 'foreign')
-LOSSY, NO_MARK = 'lossy', 'lossy without a mark'
+LOSSY, LOSSY_FOREIGN, NO_MARK = 'lossy', 'lossy, foreign', 'lossy without a mark'
 CONTROLS = ('first-late', 'first-unsynced', 'slots-in-turn', 'last-early', 'no-dropping-mark')
 
 
@@ -40,6 +41,7 @@ class Log:
         self.slots, self.synced, self.count = [[TORN], [TORN]], 1, 0
         self.span, self.is_behind = None, False
         self.missing, self.was_reported, self.forgotten, self.openings = [], False, 0, 0
+        self.was_marked, self.unmarked = False, 0
         self.crash_in = None
         self.syncs = self.rotations = self.purges = self.deleted = 0
 
@@ -120,7 +122,7 @@ class Log:
     def forget(self):
         """Before a name goes, a process that knows no span removes the note."""
         if self.writer != 'foreign':
-            self.slots, self.synced = [[TORN], [TORN]], 1
+            self.slots, self.synced, self.was_marked = [[TORN], [TORN]], 1, False
 
     def delete(self, number, up_to):
         if self.writer == 'c' or self.span is None:
@@ -194,11 +196,13 @@ class Log:
 
     def see_losses(self, note):
         """What an opening reports."""
-        self.missing, strays, _, is_stale = note.report(self.files)
-        has_losses = bool(self.missing or strays or (note.has_lost and not is_stale))
+        self.missing, strays, _, _ = note.report(self.files)
+        has_losses = bool(self.missing or strays or note.has_lost)
         self.openings += self.was_reported
         self.forgotten += self.was_reported and not has_losses
         self.was_reported |= has_losses
+        self.unmarked += self.was_marked and not note.has_lost
+        self.was_marked |= note.has_lost
 
     def take_away(self):
         """Someone deletes files that are needed: one of them, the last one, or all."""
@@ -228,7 +232,7 @@ class Counts:
             return
         missing, strays, _, is_stale = note.report(log.files)
         self.stale += is_stale
-        self.false += bool(missing or strays or (note.has_lost and not is_stale))
+        self.false += bool(missing or strays or note.has_lost)
 
     def spoil(self, log):
         """Someone takes files away, or puts one there, between two calls."""
@@ -249,7 +253,8 @@ class Counts:
 
 def play(seed, run, control, counts):
     chance = random.Random(seed)
-    writer_of = {LOSSY: lambda: chance.choice(('disk', 'c')), 'disk': lambda: 'disk', 'c': lambda: 'c', 'mixed': lambda: chance.choice(('disk', 'c')),
+    writer_of = {LOSSY: lambda: chance.choice(('disk', 'c')),
+                 LOSSY_FOREIGN: lambda: chance.choice(('disk', 'c', 'foreign')), 'disk': lambda: 'disk', 'c': lambda: 'c', 'mixed': lambda: chance.choice(('disk', 'c')),
                  'foreign': lambda: chance.choice(('disk', 'c', 'foreign'))}[run]
     log = Log(chance, 'disk', control, counts.look)
     log.open(writer_of())
@@ -265,7 +270,7 @@ def play(seed, run, control, counts):
                 log.close()
                 log.crash_in = None
                 log.crash()
-                if run == LOSSY and chance.random() < .2:
+                if run in (LOSSY, LOSSY_FOREIGN) and chance.random() < .2:
                     log.take_away()
                 log.open(writer_of())
             counts.spoil(log)
@@ -296,6 +301,10 @@ def main():
         openings, forgotten = (sum(getattr(log, it) for log in logs) for it in ('openings', 'forgotten'))
         print(f'{control or LOSSY}: {openings} openings after a loss was reported, {forgotten} of them report nothing')
         is_good = is_good and openings and bool(control) == (forgotten > 0)
+    logs = [play(seed, LOSSY_FOREIGN, '', Counts()) for seed in range(words.seeds)]
+    unmarked, marked = sum(log.unmarked for log in logs), sum(log.was_marked for log in logs)
+    print(f'{LOSSY_FOREIGN}: {marked} logs end with a mark, {unmarked} openings lost one although the note stayed')
+    is_good = is_good and marked and not unmarked
     print('as it should be' if is_good else 'NOT AS IT SHOULD BE')
     return 0 if is_good else 1
 

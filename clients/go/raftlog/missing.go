@@ -13,7 +13,7 @@ const (
 	FileMissing LossKind = C.RAFTLOG_FILE_MISSING // they are needed and do not exist: what they contained is lost
 	FileStray   LossKind = C.RAFTLOG_FILE_STRAY   // one exists, and does not follow on the log's files
 	NoteStale   LossKind = C.RAFTLOG_NOTE_STALE   // another program wrote to the log since: not known
-	LostBefore  LossKind = C.RAFTLOG_LOST_BEFORE  // one was missing at an earlier opening, and cannot be put back
+	LostBefore  LossKind = C.RAFTLOG_LOST_BEFORE  // one was missing at an earlier opening: the numbers are the note's
 )
 
 // A Loss is what an opening found by the log's note of its files' numbers.
@@ -45,7 +45,8 @@ func AcceptMissing(folder string) error {
 }
 
 // Missing returns the log files that the opening found to be missing or strays. After a crash or a kill there are none.
-// Later openings report them too, until the files are put back or AcceptMissing is called.
+// Later openings report them too, until the files are put back or the note is gone: AcceptMissing removes it, and so does
+// an opening or a write if a new note is refused.
 func (e *Engine) Missing() ([]Loss, error) {
 	e.mutex.RLock()
 	defer e.mutex.RUnlock()

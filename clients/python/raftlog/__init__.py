@@ -230,7 +230,7 @@ class Engine:
     those that change its group (raftlog.h, "Rounds")."""
 
     def __init__(self, folder=None, settings="", watch=None, whole=False):
-        """`whole`: the opening fails as LOST if a log file is missing or a stray; it takes no `watch`."""
+        """`whole`: the opening fails as LOST if a log file is missing or was, or is a stray; it takes no `watch`."""
         if whole and watch:
             raise ValueError("an opening takes whole or watch")
         text, self._log = ctypes.create_string_buffer(512), c_void_p()
@@ -297,8 +297,9 @@ class Engine:
     def missing(self):
         """The log files that the opening found to be missing or strays, by the log's note of their numbers. A Loss has its
         kind (FILE_MISSING, FILE_STRAY, LOST_BEFORE: one was missing at an earlier opening and cannot be put back, or
-        NOTE_STALE: not known), the queue, and the least and the greatest number. After a crash or a kill there are none.
-        Later openings report them too, until the files are put back or `accept_missing` is called."""
+        NOTE_STALE: not known), the queue, and the least and the greatest number; for the last two kinds these are the
+        note's. After a crash or a kill there are none. Later openings report them too, until the files are put back or the
+        note is gone: `accept_missing` removes it, and so does a write if a new note is refused."""
         if not self._log:
             raise Error(FAILED, "the log is closed")
         count = _C.raftlog_missing(self._log, None, 0, 0)

@@ -313,7 +313,7 @@ pub enum LossKind {
     FileStray,
     /// Another program wrote to the log after its note: whether a file is missing isn't known.
     NoteStale,
-    /// One was missing at an earlier opening, and cannot be put back.
+    /// One was missing at an earlier opening, and cannot be put back. The numbers are the note's.
     LostBefore,
     Other(i32),
 }
@@ -435,7 +435,8 @@ impl Engine {
         engine
     }
 
-    /// As `open`, but fails as `Code::Lost` if a log file is missing or a stray. It has changed no log file then.
+    /// As `open`, but fails as `Code::Lost` if a log file is missing or was, or is a stray. It has changed no log
+    /// file then.
     pub fn open_whole(folder: impl AsRef<Path>, settings: &str) -> Result<Engine> {
         let folder = path_text(folder.as_ref())?;
         Engine::opened(settings, |settings, out, text, room| unsafe {
@@ -557,7 +558,8 @@ impl Engine {
     }
 
     /// The log files that the opening found to be missing or strays. After a crash or a kill there are none. Later openings
-    /// report them too, until the files are put back or `accept_missing` is called.
+    /// report them too, until the files are put back or the note is gone: `accept_missing` removes it, and so does a write
+    /// if a new note is refused.
     pub fn missing(&self) -> Vec<Loss> {
         let count = unsafe { sys::raftlog_missing(self.log, ptr::null_mut(), 0, 0) };
         let mut found = Vec::with_capacity(count);

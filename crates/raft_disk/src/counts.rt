@@ -8,10 +8,10 @@ pub const TIMES: usize = 24;
 /// Calls of the system on the log's files that were carried out. Reads use memory.
 #[derive(Clone, Copy, Debug, PartialEq, Eq)]
 pub struct DiskCounts {
-    /// Calls that wrote, and the bytes that they wrote.
+    /// Writes that the log made, and their bytes.
     pub writes: u64,
     pub bytes: u64,
-    /// Syncs of files, with the time of all and of the longest in nanoseconds.
+    /// Syncs of files, with the time of all and of the longest in nanoseconds; 0 without a clock.
     pub syncs: u64,
     pub sync_ns: u64,
     pub longest_sync_ns: u64,

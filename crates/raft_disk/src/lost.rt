@@ -11,7 +11,7 @@ pub(crate) fn lost_files(alloc: Global, reports: &SpanReports) -> io::Result<Str
     Ok(text)
 }
 
-// The names of a queue's files end so.
+// `end` is what the names of the queue's files end with.
 fn add_queue(alloc: Global, text: &mut String, report: &SpanReport, end: &str) -> io::Result<()> {
     for &(first, last) in &report.missing {
         let part = if first == last {
@@ -26,7 +26,7 @@ fn add_queue(alloc: Global, text: &mut String, report: &SpanReport, end: &str) -
         add_part(text, part.as_str())?;
     }
     if report.has_lost {
-        let part = format!(in alloc; "files NUMBER.{end} were missing before")?;
+        let part = format!(in alloc; "NUMBER.{end} files were missing at an earlier opening")?;
         add_part(text, part.as_str())?;
     }
     Ok(())

@@ -57,11 +57,16 @@ impl SpanFile {
                 return Ok(found);
             }
         }
-        if found.read(rt, place.as_str()).is_err() {
-            found = SpanFile::new(rt.alloc());
-            found.is_silent = remove_note(rt, root).is_err();
+        match found.read(rt, place.as_str()) {
+            Ok(()) => Ok(found),
+            // The note may be sound.
+            Err(e) if is_lack(&e) => Err(e),
+            Err(_) => {
+                found = SpanFile::new(rt.alloc());
+                found.is_silent = remove_note(rt, root).is_err();
+                Ok(found)
+            }
         }
-        Ok(found)
     }
 
     fn read(&mut self, rt: &HostRuntime, place: &str) -> io::Result<()> {
@@ -149,17 +154,22 @@ impl SpanFile {
     }
 
     /// Notes and syncs that a file will be made, if it hides that one was missing at the opening. If
-    /// that is refused, the note before stays.
+    /// that is refused, it is tried again at the next write or sync. If no note is written, the one
+    /// before is removed.
     pub(crate) fn replace(&mut self, rt: &HostRuntime, root: &Root, path: &str) {
         let Some((queue, number)) = self.spans.number_at(path) else {
             return;
         };
+        if self.is_silent {
+            let _ = self.write_or_remove(rt, root);
+            return;
+        }
         let hides = match &self.reports {
             Some(reports) => reports.of(queue).hides(number),
             None => false,
         };
-        if hides && self.lose(queue) {
-            let _ = self.write(rt, root, true);
+        if hides && self.lose(queue) && self.write(rt, root, true).is_err() {
+            self.is_behind = true;
         }
     }
 
@@ -171,7 +181,7 @@ impl SpanFile {
         is_new
     }
 
-    // The same if files are gone that follow on a missing one.
+    // The same if a purge drops files after a missing one.
     fn lose_passed(&mut self, queue: LogQueue) -> bool {
         let first = self.spans.span(queue).first;
         let is_passed = match &self.reports {
@@ -266,6 +276,11 @@ impl SpanFile {
         }
         Ok(())
     }
+}
+
+// Whether memory or descriptors were lacking, which says nothing of the file.
+fn is_lack(error: &io::Error) -> bool {
+    error.kind() == ErrorKind::OutOfMemory || matches!(error.raw_os_error(), Some(23 | 24))
 }
 
 /// Removes the note of a folder, so that a crash doesn't bring it back. None may be there.

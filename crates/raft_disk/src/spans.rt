@@ -66,10 +66,9 @@ pub struct SpanReport {
     pub strays: Vec<u64>,
     /// The numbers of files that a purge or a close left. Nothing needs them.
     pub left_over: Vec<u64>,
-    /// Files were missing at an earlier opening, and can't be put back. It holds until the loss is
-    /// accepted.
+    /// Files were missing at an earlier opening, and can't be put back. It holds while the note does.
     pub has_lost: bool,
-    /// Another program wrote to the queue after the note. Then nothing else is reported.
+    /// Another program wrote to the queue after the note. Then the lists are empty.
     pub is_stale: bool,
 }
 
@@ -115,7 +114,7 @@ impl SpanReport {
         self.missing.iter().any(|range| number <= range.1)
     }
 
-    // Whether a file is missing of a number before this one.
+    // Whether a file with a smaller number is missing.
     pub(crate) fn is_missing_before(&self, number: u64) -> bool {
         self.missing.iter().any(|range| range.0 < number)
     }
@@ -146,11 +145,11 @@ impl Span {
     pub fn report(&self, alloc: Global, numbers: &[u64]) -> Result<SpanReport, AllocError> {
         let mut report = SpanReport::new(alloc);
         let end = self.end(numbers);
+        report.has_lost = self.has_lost;
         if self.is_stale(numbers, end) {
             report.is_stale = true;
             return Ok(report);
         }
-        report.has_lost = self.has_lost;
         let mut next = self.front(numbers);
         for &number in numbers {
             if number < self.first {
@@ -212,7 +211,10 @@ impl Span {
     pub(crate) fn at_opening(&self, numbers: &[u64]) -> Option<Span> {
         let end = self.end(numbers);
         if self.is_stale(numbers, end) {
-            let span = Span::of(numbers);
+            let span = Span {
+                has_lost: self.has_lost,
+                ..Span::of(numbers)
+            };
             return (numbers.first() == Some(&span.first)).then_some(span);
         }
         Some(Span {

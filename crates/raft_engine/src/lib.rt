@@ -37,8 +37,8 @@ pub mod lines {
     pub use raft_lines::{Ended, serve};
 }
 
-/// What an opening would lose of the log files, found before it. Which files are missing says
-/// `DiskFileSystem::span_reports`.
+/// What an opening would lose of the log files, found before it.
+/// `DiskFileSystem::span_reports` says which files are missing.
 pub mod losses {
     pub use raft_inspect::{Cut, Losses, Passed, Unexplained};
 }

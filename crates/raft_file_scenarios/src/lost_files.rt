@@ -62,17 +62,17 @@ static CASES: [Case; 12] = [
     Case(&[&[Take(B)], &[Accept]], None),
     Case(
         &[&[Take(D)], &[Make(D)]],
-        Some("files NUMBER.raftlog were missing before"),
+        Some("NUMBER.raftlog files were missing at an earlier opening"),
     ),
     Case(
         &[&[Take(B)], &[Delete(A), Delete(C)]],
-        Some("files NUMBER.raftlog were missing before"),
+        Some("NUMBER.raftlog files were missing at an earlier opening"),
     ),
     Case(
         &[&[Take(A), Take(B), Take(C), Take(D)], &[Make(A)]],
         Some(
             "0000000000000002.raftlog to 0000000000000004.raftlog are missing; \
-            files NUMBER.raftlog were missing before",
+            NUMBER.raftlog files were missing at an earlier opening",
         ),
     ),
     Case(&[&[Take(B)], &[Delete(A), Delete(C)], &[Accept]], None),
