@@ -1,10 +1,11 @@
 //! A file that is read in blocks of different sizes.
 
 use crate::failing::Failing;
+use crate::in_memory::{Tried, holds_in_memory};
 use crate::told::assert_row;
 use raft_env::{FileSystem, FsFault, IoKind, Permission};
 use raft_files::{LogFileReader, LogItemBatchFileReader};
-use raft_memory::{FsCall, MemoryFileSystem};
+use raft_memory::FsCall;
 use raft_records::{Fault, FileId, LogBatch, LogQueue};
 use std::alloc::Global;
 
@@ -47,22 +48,28 @@ fn append<F: FileSystem>(fs: &mut F, part: &[u8]) -> Result<usize, FsFault> {
     fs.file_size(&handle)
 }
 
-fn add_part<F: FileSystem>(fs: &mut F, alloc: Global, part: &[u8]) -> Result<usize, Fault> {
-    match append(fs, part) {
-        Ok(end) => Ok(end),
-        Err(fault) => Err(fault.with_path(alloc, PATH)),
+// Adds a record, and the file's end after it.
+fn adds<F: FileSystem>(fs: &mut F, alloc: Global, place: usize, ends: &mut Vec<usize>) -> bool {
+    let Ok(record) = record_of(alloc, place) else {
+        return false;
+    };
+    match append(fs, record.encoded_bytes()) {
+        Ok(end) => ends.push(end).is_ok(),
+        Err(_) => false,
     }
 }
 
-// The ends of all records of a file that is written.
-fn written<F: FileSystem>(fs: &mut F, alloc: Global) -> Result<Vec<usize>, Fault> {
-    let mut ends = Vec::new(alloc);
-    add_part(fs, alloc, HEADER)?;
-    for place in 0..RECORDS {
-        let record = record_of(alloc, place)?;
-        ends.push(add_part(fs, alloc, record.encoded_bytes())?)?;
+// Writes the file, and notes the ends of all its records.
+fn writes<F: FileSystem>(fs: &mut F, alloc: Global, ends: &mut Vec<usize>) -> bool {
+    if append(fs, HEADER).is_err() {
+        return false;
     }
-    Ok(ends)
+    for place in 0..RECORDS {
+        if !adds(fs, alloc, place, ends) {
+            return false;
+        }
+    }
+    true
 }
 
 fn file_reader<F: FileSystem>(fs: &mut F) -> Result<LogFileReader<F>, FsFault> {
@@ -71,21 +78,18 @@ fn file_reader<F: FileSystem>(fs: &mut F) -> Result<LogFileReader<F>, FsFault> {
 }
 
 // Opens the file behind its header.
-fn open<F: FileSystem>(
-    fs: &mut F,
-    alloc: Global,
-    size: usize,
-) -> Result<LogItemBatchFileReader<F>, Fault> {
-    let reader = match file_reader(fs) {
-        Ok(reader) => reader,
-        Err(fault) => return Err(fault.with_path(alloc, PATH)),
-    };
-    let mut records = LogItemBatchFileReader::new(alloc, size);
-    records.open(fs, FileId::new(LogQueue::Append, 1), PATH, reader)?;
-    Ok(records)
+fn opens<F: FileSystem>(fs: &mut F, records: &mut LogItemBatchFileReader<F>) -> bool {
+    match file_reader(fs) {
+        Ok(reader) => {
+            records
+                .open(fs, FileId::new(LogQueue::Append, 1), PATH, reader)
+                .is_ok()
+        }
+        Err(_) => false,
+    }
 }
 
-// The code of the fault that the next record is refused with; 0 where it ends at this place.
+// The code of the fault that the next record is refused with; 0 if it ends at this place.
 fn next_code<F: FileSystem>(fs: &F, records: &mut LogItemBatchFileReader<F>, end: usize) -> u8 {
     match records.next(fs, PATH) {
         Ok(Some(_)) if records.valid_offset() == end => 0,
@@ -94,7 +98,7 @@ fn next_code<F: FileSystem>(fs: &F, records: &mut LogItemBatchFileReader<F>, end
     }
 }
 
-// How many records are read before the first that isn't, and that one's code; 0 where all are.
+// How many records are read before the first that isn't, and that one's code; 0 if all are.
 fn read_all<F: FileSystem>(
     fs: &F,
     records: &mut LogItemBatchFileReader<F>,
@@ -109,22 +113,33 @@ fn read_all<F: FileSystem>(
     (ends.len(), 0)
 }
 
-// Whether so many records are read and then this fault comes, with blocks of each size.
+// Whether so many records are read and then this fault comes, with blocks of a size.
+fn reads<F: FileSystem>(
+    fs: &mut F,
+    alloc: Global,
+    size: usize,
+    ends: &[usize],
+    found: (usize, u8),
+) -> bool {
+    let mut records = LogItemBatchFileReader::new(alloc, size);
+    let is_read = opens(fs, &mut records) && read_all(fs, &mut records, ends) == found;
+    drop(records);
+    is_read
+}
+
+// .. with blocks of each size.
 fn each_reads<F: FileSystem>(
     fs: &mut F,
     alloc: Global,
     ends: &[usize],
     found: (usize, u8),
-) -> Result<bool, Fault> {
+) -> bool {
     for size in &SIZES {
-        let mut records = open(fs, alloc, *size)?;
-        let read = read_all(fs, &mut records, ends);
-        drop(records);
-        if read != found {
-            return Ok(false);
+        if !reads(fs, alloc, *size, ends, found) {
+            return false;
         }
     }
-    Ok(true)
+    true
 }
 
 fn cut<F: FileSystem>(fs: &mut F, size: usize) -> Result<(), FsFault> {
@@ -134,34 +149,32 @@ fn cut<F: FileSystem>(fs: &mut F, size: usize) -> Result<(), FsFault> {
 }
 
 // Whether all records but the last are read of a file that lacks a byte.
-fn others_read<F: FileSystem>(fs: &mut F, alloc: Global, ends: &[usize]) -> Result<bool, Fault> {
+fn reads_others<F: FileSystem>(fs: &mut F, alloc: Global, ends: &[usize]) -> bool {
     let end = ends.last().copied().unwrap_or(0);
-    match cut(fs, end.saturating_sub(1)) {
-        Ok(()) => each_reads(fs, alloc, ends, (RECORDS - 1, 2)),
-        Err(fault) => Err(fault.with_path(alloc, PATH)),
-    }
+    cut(fs, end.saturating_sub(1)).is_ok() && each_reads(fs, alloc, ends, (RECORDS - 1, 2))
 }
 
-// Whether all records are read with blocks of each size, and a read that is refused behind the
-// opening shows before the last one.
-fn is_read_in_blocks<F: Failing>(fs: &mut F, alloc: Global) -> Result<bool, Fault> {
-    let ends = written(fs, alloc)?;
-    let all = each_reads(fs, alloc, &ends, (RECORDS, 0))?;
-    let mut records = open(fs, alloc, 512)?;
-    let failing = fs.fail(FsCall::Read, 1, IoKind::Other);
-    let (read, code) = read_all(fs, &mut records, &ends);
+// Whether a read that is refused behind the opening shows before the last record.
+fn shows<F: Failing>(fs: &mut F, alloc: Global, ends: &[usize]) -> bool {
+    let mut records = LogItemBatchFileReader::new(alloc, 512);
+    let is_armed = opens(fs, &mut records) && fs.fail(FsCall::Read, 1, IoKind::Other).is_ok();
+    let (read, code) = read_all(fs, &mut records, ends);
     drop(records);
-    failing?;
-    let others = others_read(fs, alloc, &ends)?;
-    Ok(all && read < RECORDS && code == 3 && others)
+    is_armed && read < RECORDS && code == 3
 }
 
-fn is_read_in_memory(alloc: Global) -> Result<bool, Fault> {
-    let mut fs = MemoryFileSystem::new(alloc);
-    is_read_in_blocks(&mut fs, alloc)
+/// Whether all records are read with blocks of each size, also if a read is refused or a byte is
+/// missing.
+pub(crate) fn is_read_in_blocks<F: Failing>(fs: &mut F, alloc: Global) -> bool {
+    let mut ends = Vec::new(alloc);
+    writes(fs, alloc, &mut ends)
+        && each_reads(fs, alloc, &ends, (RECORDS, 0))
+        && shows(fs, alloc, &ends)
+        && reads_others(fs, alloc, &ends)
 }
 
 #[test]
 fn block_size_changes_no_batch(rt: HostRuntime) {
-    assert_row(&rt, is_read_in_memory(rt.alloc()), "a file of many records");
+    let held = holds_in_memory(rt.alloc(), &Tried::BlockSizes);
+    assert_row(&rt, held, "a file of many records");
 }

@@ -2,17 +2,19 @@
 
 ghost use Rattle.raft_files.specs.Header.{HasHeader};
 
-use crate::told::{assert_case, assert_row};
+use crate::in_memory::{Tried, holds_in_memory};
+use crate::told::assert_case;
 use raft_dump::{build_file_reader, build_file_writer};
 use raft_env::FileSystem;
 use raft_files::LogFileFormat;
-use raft_memory::MemoryFileSystem;
-use raft_records::{Fault, Version};
-use raft_rows::{HEADER, PUT, fill, store};
+use raft_records::Version;
+use raft_rows::{FileParts, HEADER, PUT, fill, store};
 use std::alloc::Global;
 
 /// A path, whether the file is asked for, and where its writer stands, or a fault's code.
-static ROWS: [(&str, bool, Result<usize, u8>); 5] = [
+pub(crate) type Writer = (&'static str, bool, Result<usize, u8>);
+
+static WRITERS: [Writer; 5] = [
     ("a/found", false, Ok(89)),
     ("a/found", true, Ok(61)),
     ("a/missing", true, Ok(61)),
@@ -40,49 +42,30 @@ fn read_len<F: FileSystem>(alloc: Global, fs: &mut F, path: &str) -> Result<usiz
     }
 }
 
-fn holds<F: FileSystem>(
-    fs: &mut F,
-    alloc: Global,
-    path: &str,
-    create: bool,
-    offset: Result<usize, u8>,
-) -> Result<bool, Fault> {
-    fill(
-        fs,
-        alloc,
-        &[("a/found", &[HEADER, PUT]), ("a/short", &[PUT])],
-    )?;
-    if written(alloc, fs, path, create) != offset {
-        return Ok(false);
+/// Whether the file's writer and a reader after it come to what the row says.
+pub(crate) fn is_built<F: FileSystem>(fs: &mut F, alloc: Global, row: &Writer) -> bool {
+    let (path, create, offset) = *row;
+    let files: &[FileParts] = &[("a/found", &[HEADER, PUT]), ("a/short", &[PUT])];
+    if fill(fs, alloc, files).is_err() || written(alloc, fs, path, create) != offset {
+        return false;
     }
-    Ok(match (read_len(alloc, fs, path), offset) {
+    match (read_len(alloc, fs, path), offset) {
         (Ok(len), Ok(offset)) => offset <= len,
         (Err(code), Err(_)) => code == 3,
         _ => false,
-    })
-}
-
-fn holds_in_memory(
-    alloc: Global,
-    path: &str,
-    create: bool,
-    offset: Result<usize, u8>,
-) -> Result<bool, Fault> {
-    let mut fs = MemoryFileSystem::new(alloc);
-    holds(&mut fs, alloc, path, create, offset)
+    }
 }
 
 #[test]
 fn writers_stand_behind_a_header(rt: HostRuntime) {
-    for (path, create, offset) in &ROWS {
-        let held = holds_in_memory(rt.alloc(), path, *create, *offset);
-        assert_row(&rt, held, path);
+    for (place, row) in WRITERS.iter().enumerate() {
+        assert_case(&rt, holds_in_memory(rt.alloc(), &Tried::Writer(row)), place);
     }
 }
 
 /// The version of a header that is in a file, how many bytes of it are there, and the version in which the file is
 /// then written.
-struct Begun(Version, usize, Version);
+pub(crate) struct Begun(Version, usize, Version);
 
 static BEGUN: [Begun; 6] = [
     Begun(Version::V1, 60, Version::V1),
@@ -105,48 +88,49 @@ fn format_of(version: Version) -> LogFileFormat
 }
 
 // Puts the first bytes of a header into a file.
-fn begin<F: FileSystem>(
-    alloc: Global,
-    fs: &mut F,
-    version: Version,
-    len: usize,
-) -> Result<(), Fault> {
-    fill(fs, alloc, &[])?;
+fn begins<F: FileSystem>(alloc: Global, fs: &mut F, version: Version, len: usize) -> bool {
     let mut bytes = Vec::new(alloc);
-    format_of(version).encode(&mut bytes)?;
+    if fill(fs, alloc, &[]).is_err() || format_of(version).encode(&mut bytes).is_err() {
+        return false;
+    }
     bytes.truncate(len);
-    match store(fs, BEGUN_PATH, &[&bytes]) {
-        Ok(()) => Ok(()),
-        Err(fault) => Err(fault.with_path(alloc, BEGUN_PATH)),
+    store(fs, BEGUN_PATH, &[&bytes]).is_ok()
+}
+
+// Makes a writer of this version for the file.
+fn makes_writer<F: FileSystem>(alloc: Global, fs: &mut F, version: Version) -> bool {
+    match build_file_writer(alloc, fs, BEGUN_PATH, format_of(version), false) {
+        Ok(writer) => {
+            drop(writer);
+            true
+        }
+        Err(_) => false,
     }
 }
 
-// The format of a file, once a writer of this version was made for it.
-fn written_format<F: FileSystem>(
-    alloc: Global,
-    fs: &mut F,
-    version: Version,
-) -> Result<Option<LogFileFormat>, Fault> {
-    drop(build_file_writer(alloc, fs, BEGUN_PATH, format_of(version), false)?);
-    let mut reader = build_file_reader(alloc, fs, BEGUN_PATH)?;
-    let format = reader.parse_format(fs);
-    reader.end(fs);
-    match format {
-        Ok(format) => Ok(format),
-        Err(fault) => Err(fault.with_path(alloc, BEGUN_PATH)),
+// Whether the file has this format.
+fn has_format<F: FileSystem>(alloc: Global, fs: &mut F, format: LogFileFormat) -> bool {
+    match build_file_reader(alloc, fs, BEGUN_PATH) {
+        Ok(mut reader) => {
+            let found = reader.parse_format(fs);
+            reader.end(fs);
+            found == Ok(Some(format))
+        }
+        Err(_) => false,
     }
 }
 
-fn is_written_again(alloc: Global, row: &Begun) -> Result<bool, Fault> {
+/// Whether a file that begins so has the writer's header.
+pub(crate) fn is_written_again<F: FileSystem>(fs: &mut F, alloc: Global, row: &Begun) -> bool {
     let Begun(from, len, to) = row;
-    let mut fs = MemoryFileSystem::new(alloc);
-    begin(alloc, &mut fs, *from, *len)?;
-    Ok(written_format(alloc, &mut fs, *to)? == Some(format_of(*to)))
+    begins(alloc, fs, *from, *len)
+        && makes_writer(alloc, fs, *to)
+        && has_format(alloc, fs, format_of(*to))
 }
 
 #[test]
 fn a_partly_written_header_is_written_again(rt: HostRuntime) {
     for (place, row) in BEGUN.iter().enumerate() {
-        assert_case(&rt, is_written_again(rt.alloc(), row), place);
+        assert_case(&rt, holds_in_memory(rt.alloc(), &Tried::Begun(row)), place);
     }
 }

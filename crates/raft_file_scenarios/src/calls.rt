@@ -1,12 +1,11 @@
 //! Calls on the files of a folder: what each is answered, and what then stands on the disk.
 
-use crate::in_folder::{InFolder, try_in_folder};
-use crate::reads::{bytes_at, place_in};
-use raft_disk::{DiskFileSystem, DiskWriter, Folder};
+use crate::disk::{Disk, Reading};
+use crate::in_folder::{Tried, holds_in_folder};
+use crate::reads::{has_bytes, loses, stands_at};
+use crate::told::assert_row;
+use raft_disk::OpenFault;
 use raft_env::{FileSystem, FsFault, IoKind, Permission};
-use raft_memory::MemoryFileSystem;
-use std::test::Fail;
-use std::{fs, io};
 
 /// A name that no file and no folder can have, since it has 256 bytes.
 const LONG: &str = "\
@@ -54,7 +53,7 @@ pub(crate) enum Step {
 type Row = (Step, Option<IoKind>, &'static str, Option<&'static [u8]>);
 
 /// The rows of each of a folder's openings, one after the other.
-struct Case {
+pub(crate) struct Case {
     name: &'static str,
     openings: [&'static [Row]; 3],
 }
@@ -192,7 +191,7 @@ const OPEN: &[Row] = &[
     (Step::Create(B), None, B, Some(b"")),
 ];
 
-const CASES: [Case; 10] = [
+static CASES: [Case; 10] = [
     Case {
         name: "names",
         openings: [NAMES, NAMES_AGAIN, NAMES_WRITTEN],
@@ -282,92 +281,84 @@ fn take<F: FileSystem>(
     }
 }
 
-type DiskFileWriter = DiskWriter<Folder, MemoryFileSystem>;
-
-// Each function that calls files on the disk is dear to prove: no other does.
-fn take_on_disk(
-    files: &mut DiskFileSystem,
-    writer: &mut Option<DiskFileWriter>,
-    step: &Step,
-) -> Result<(), FsFault> {
-    take(files, writer, step)
-}
-
-/// Takes a step on the disk that no writer of an earlier one takes.
-pub(crate) fn take_alone(files: &mut DiskFileSystem, step: &Step) -> Result<(), FsFault> {
+/// Takes a step that needs no writer of an earlier one.
+pub(crate) fn take_alone<F: FileSystem>(files: &mut F, step: &Step) -> Result<(), FsFault> {
     let mut writer = None;
-    take_on_disk(files, &mut writer, step)
+    take(files, &mut writer, step)
 }
 
-/// Whether a file is known at the path.
-pub(crate) fn is_known(files: &DiskFileSystem, path: &str) -> bool {
-    files.is_file(path)
+/// Whether a call is answered so: not at all, or with this kind of fault.
+pub(crate) fn is_answered(done: Result<(), FsFault>, wanted: Option<IoKind>) -> bool {
+    match done {
+        Ok(()) => wanted.is_none(),
+        Err(FsFault::Io(kind)) => wanted == Some(kind),
+        Err(FsFault::Memory) => false,
+    }
 }
 
 // Whether the file at the path has these bytes on the disk, or stands there no more.
-fn stands(
-    rt: &HostRuntime,
-    folder: &str,
-    path: &str,
-    wanted: Option<&'static [u8]>,
-) -> io::Result<bool> {
-    match (bytes_at(rt, folder, path)?, wanted) {
-        (Some(bytes), Some(wanted)) => Ok(bytes.as_slice() == wanted),
-        (None, None) => Ok(true),
-        _ => Ok(false),
+fn stands(rt: &HostRuntime, folder: &str, path: &str, wanted: Option<&'static [u8]>) -> bool {
+    match wanted {
+        Some(bytes) => has_bytes(rt, folder, path, bytes),
+        None => stands_at(rt, folder, path) == Some(false),
     }
 }
 
-fn lose(rt: &HostRuntime, folder: &str, step: &Step) -> io::Result<()> {
-    if let Step::Lose(path) = step {
-        fs::remove_file(rt, place_in(rt, folder, path)?.as_str())?;
-    }
-    Ok(())
+// Takes the step; another program may have lost a file before.
+fn comes_to<F: FileSystem>(
+    rt: &HostRuntime,
+    files: &mut F,
+    writer: &mut Option<F::Writer>,
+    folder: &str,
+    row: &Row,
+) -> bool {
+    let (step, fault, path, bytes) = row;
+    let is_lost = match step {
+        Step::Lose(path) => loses(rt, folder, path),
+        _ => true,
+    };
+    is_lost && is_answered(take(files, writer, step), *fault) && stands(rt, folder, path, *bytes)
 }
 
-// The first row whose answer or whose file on the disk is another.
-fn first_wrong(
-    rt: &HostRuntime,
-    files: &mut DiskFileSystem,
-    folder: &str,
-    rows: &[Row],
-) -> Result<Option<usize>, Fail> {
+fn all_come_to<F: FileSystem>(rt: &HostRuntime, files: &mut F, folder: &str, rows: &[Row]) -> bool {
     let mut writer = None;
-    for (place, (step, fault, path, bytes)) in rows.iter().enumerate() {
-        lose(rt, folder, step)?;
-        let answer = match take_on_disk(files, &mut writer, step) {
-            Ok(()) => None,
-            Err(FsFault::Io(kind)) => Some(kind),
-            Err(FsFault::Memory) => return Err(Fail::new("memory")),
-        };
-        if answer != *fault || !stands(rt, folder, path, *bytes)? {
-            return Ok(Some(place));
+    for row in rows {
+        if !comes_to(rt, files, &mut writer, folder, row) {
+            return false;
         }
     }
-    Ok(None)
+    true
 }
 
-fn wrong_in(rt: HostRuntime, folder: &str, rows: &[Row]) -> Result<Option<usize>, Fail> {
-    let mut files = DiskFileSystem::open(rt, folder)?;
-    first_wrong(&rt, &mut files, folder, rows)
-}
-
-impl InFolder for Case {
-    fn holds(&self, rt: HostRuntime, folder: &str) -> Result<bool, Fail> {
-        for (opening, rows) in self.openings.iter().enumerate() {
-            if let Some(row) = wrong_in(rt, folder, rows)? {
-                let name = self.name;
-                return Err(Fail::new(format_args!("{name}: opening {opening}, row {row}")));
-            }
-        }
-        Ok(true)
+fn is_opened<F: Disk + FileSystem + Drop>(rt: HostRuntime, folder: &str, rows: &[Row]) -> bool {
+    let opened: Result<F, OpenFault> = F::open_folder(rt, folder, Reading::All);
+    match opened {
+        Ok(mut files) => all_come_to(&rt, &mut files, folder, rows),
+        Err(_) => false,
     }
+}
+
+/// Whether each opening's rows come to what they say.
+pub(crate) fn are_carried_out<F: Disk + FileSystem + Drop>(
+    rt: HostRuntime,
+    folder: &str,
+    case: &Case,
+) -> bool {
+    for rows in &case.openings {
+        if !is_opened::<F>(rt, folder, rows) {
+            return false;
+        }
+    }
+    true
 }
 
 #[test]
-fn calls_are_carried_out_on_the_disk(rt: HostRuntime) -> Result<(), Fail> {
-    for (place, case) in CASES.iter().enumerate() {
-        try_in_folder(rt, "calls", place, case)?;
+fn calls_are_carried_out_on_the_disk(rt: HostRuntime) {
+    for case in &CASES {
+        assert_row(
+            &rt,
+            holds_in_folder(rt, "calls", &Tried::Calls(case)),
+            case.name,
+        );
     }
-    Ok(())
 }

@@ -1,19 +1,19 @@
 //! What a check tells of a file, and what an opening would do with a queue's files.
 
-use crate::told::{assert_case, assert_rows};
+use crate::in_memory::{Tried, holds_in_memory};
+use crate::told::assert_case;
 use raft_config::RecoveryMode;
 use raft_dump::{FileCheck, LogFile, Planned, check_file, log_files, passed_over, plan_opening};
 use raft_env::FileSystem;
-use raft_memory::MemoryFileSystem;
 use raft_records::Fault;
-use raft_rows::{FileParts, HEADER, NOTHING, PUT, PUTS, Row, ZEROS, fill};
+use raft_rows::{FileParts, HEADER, NOTHING, PUT, PUTS, ZEROS, fill};
 use std::alloc::Global;
 
 /// How many records are read, where the reading ends, how long the file is, whether the rest is zeros, and the code of
 /// what stops the reading.
 struct Found(usize, usize, usize, bool, Option<u8>);
 
-struct Case {
+pub(crate) struct Case {
     parts: &'static [FileParts],
     found: Found,
 }
@@ -85,26 +85,29 @@ fn checks_of<F: FileSystem>(alloc: Global, fs: &mut F) -> Result<Vec<FileCheck>,
     Ok(checks)
 }
 
-fn holds_in<F: FileSystem>(fs: &mut F, alloc: Global, case: &Case) -> Result<bool, Fault> {
-    fill(fs, alloc, case.parts)?;
-    match checks_of(alloc, fs)?.as_slice() {
-        [check] => Ok(is_found(check, &case.found)),
-        _ => Ok(false),
+/// Whether a check of the file finds what the case says.
+pub(crate) fn is_checked<F: FileSystem>(fs: &mut F, alloc: Global, case: &Case) -> bool {
+    if fill(fs, alloc, case.parts).is_err() {
+        return false;
+    }
+    match checks_of(alloc, fs) {
+        Ok(checks) => is_one(&checks, &case.found),
+        Err(_) => false,
     }
 }
 
-impl Row for Case {
-    type State = ();
-
-    fn holds(&self, alloc: Global, _: &mut ()) -> Result<bool, Fault> {
-        let mut fs = MemoryFileSystem::new(alloc);
-        holds_in(&mut fs, alloc, self)
+fn is_one(checks: &[FileCheck], found: &Found) -> bool {
+    match checks {
+        [check] => is_found(check, found),
+        _ => false,
     }
 }
 
 #[test]
 fn a_check_tells_what_can_be_read(rt: HostRuntime) {
-    assert_rows(&rt, rt.alloc(), &mut (), &CASES);
+    for (place, case) in CASES.iter().enumerate() {
+        assert_case(&rt, holds_in_memory(rt.alloc(), &Tried::Check(case)), place);
+    }
 }
 
 /// Files of a queue with a missing number; of those behind it two have a broken end.
@@ -121,50 +124,42 @@ const KEEP: Planned = Planned::Keep;
 
 const CUT: Planned = Planned::Cut(89);
 
-static PLANS: [(RecoveryMode, &[Planned]); 3] = [
+/// What an opening in a mode does with the files behind the missing number.
+pub(crate) type Plan = (RecoveryMode, &'static [Planned]);
+
+static PLANS: [Plan; 3] = [
     (RecoveryMode::AbsoluteConsistency, &[FAIL, KEEP, FAIL]),
     (RecoveryMode::TolerateTailCorruption, &[FAIL, KEEP, CUT]),
     (RecoveryMode::TolerateAnyCorruption, &[CUT, KEEP, CUT]),
 ];
 
-fn is_planned<F: FileSystem>(
-    fs: &mut F,
-    alloc: Global,
-    mode: RecoveryMode,
-    planned: &[Planned],
-) -> Result<bool, Fault> {
-    fill(fs, alloc, &QUEUE)?;
-    let checks = checks_of(alloc, fs)?;
-    is_plan(alloc, &checks, mode, planned)
+/// Whether the opening is planned so.
+pub(crate) fn is_planned<F: FileSystem>(fs: &mut F, alloc: Global, plan: &Plan) -> bool {
+    if fill(fs, alloc, &QUEUE).is_err() {
+        return false;
+    }
+    match checks_of(alloc, fs) {
+        Ok(checks) => is_plan(alloc, &checks, plan),
+        Err(_) => false,
+    }
 }
 
 // Whether one file is passed over, and this is planned for the others.
-fn is_plan(
-    alloc: Global,
-    checks: &[FileCheck],
-    mode: RecoveryMode,
-    planned: &[Planned],
-) -> Result<bool, Fault> {
+fn is_plan(alloc: Global, checks: &[FileCheck], plan: &Plan) -> bool {
+    let (mode, planned) = plan;
     let passed = passed_over(checks);
     let Some(kept) = checks.get(passed..) else {
-        return Ok(false);
+        return false;
     };
-    let plan = plan_opening(alloc, mode, kept)?;
-    Ok(passed == 1 && plan.as_slice() == planned)
-}
-
-fn is_planned_in_memory(
-    alloc: Global,
-    mode: RecoveryMode,
-    planned: &[Planned],
-) -> Result<bool, Fault> {
-    let mut fs = MemoryFileSystem::new(alloc);
-    is_planned(&mut fs, alloc, mode, planned)
+    match plan_opening(alloc, *mode, kept) {
+        Ok(plan) => passed == 1 && plan.as_slice() == *planned,
+        Err(_) => false,
+    }
 }
 
 #[test]
 fn an_opening_cuts_what_its_mode_tolerates(rt: HostRuntime) {
-    for (place, (mode, planned)) in PLANS.iter().enumerate() {
-        assert_case(&rt, is_planned_in_memory(rt.alloc(), *mode, planned), place);
+    for (place, plan) in PLANS.iter().enumerate() {
+        assert_case(&rt, holds_in_memory(rt.alloc(), &Tried::Plan(plan)), place);
     }
 }

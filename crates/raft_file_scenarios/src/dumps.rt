@@ -1,12 +1,12 @@
 //! What dumps of folders and files give.
 
 use crate::checks::files_in;
-use crate::told::{assert_row, assert_rows};
+use crate::in_memory::{Tried, holds_in_memory};
+use crate::told::{assert_case, assert_row};
 use raft_dump::{LogFile, LogItemReader, RecordPlace, dump_with_file_system};
 use raft_env::FileSystem;
-use raft_memory::MemoryFileSystem;
 use raft_records::{Fault, LogItem, LogQueue};
-use raft_rows::{FileParts, HEADER, NOTHING, PUT, PUTS, Row, ZEROS, fill};
+use raft_rows::{FileParts, HEADER, NOTHING, PUT, PUTS, ZEROS, fill};
 use std::alloc::Global;
 
 const APPEND: LogQueue = LogQueue::Append;
@@ -16,7 +16,7 @@ const REWRITE: LogQueue = LogQueue::Rewrite;
 /// The queue, the number and the place where the record is looked for, and the group of an item or a fault's code.
 struct Answer(LogQueue, u64, usize, Result<u64, u8>);
 
-struct Case {
+pub(crate) struct Case {
     files: &'static [FileParts],
     /// One path is dumped as what stands there; several are folders of which all files are read together.
     paths: &'static [&'static str],
@@ -161,26 +161,26 @@ fn gives<F: FileSystem>(
     items.next(fs).is_none() && items.next(fs).is_none()
 }
 
-fn holds_in<F: FileSystem>(fs: &mut F, alloc: Global, case: &Case) -> Result<bool, Fault> {
-    fill(fs, alloc, case.files)?;
-    let mut items = reader_of(alloc, fs, case.paths)?;
-    let held = gives(fs, &mut items, case.answers);
-    drop(items);
-    Ok(held)
-}
-
-impl Row for Case {
-    type State = ();
-
-    fn holds(&self, alloc: Global, _: &mut ()) -> Result<bool, Fault> {
-        let mut fs = MemoryFileSystem::new(alloc);
-        holds_in(&mut fs, alloc, self)
+/// Whether a dump gives what the case says.
+pub(crate) fn is_dumped<F: FileSystem>(fs: &mut F, alloc: Global, case: &Case) -> bool {
+    if fill(fs, alloc, case.files).is_err() {
+        return false;
+    }
+    match reader_of(alloc, fs, case.paths) {
+        Ok(mut items) => {
+            let held = gives(fs, &mut items, case.answers);
+            drop(items);
+            held
+        }
+        Err(_) => false,
     }
 }
 
 #[test]
 fn files_give_their_items_and_then_an_error(rt: HostRuntime) {
-    assert_rows(&rt, rt.alloc(), &mut (), &CASES);
+    for (place, case) in CASES.iter().enumerate() {
+        assert_case(&rt, holds_in_memory(rt.alloc(), &Tried::Dump(case)), place);
+    }
 }
 
 /// Paths of which nothing is dumped, beside two folders and a file `a/LOCK`.
@@ -191,25 +191,23 @@ static REFUSED: [&str; 4] = [
     "a/0000000000000001.raftlog.reserved",
 ];
 
-fn is_refused<F: FileSystem>(fs: &mut F, alloc: Global, path: &str) -> Result<bool, Fault> {
-    fill(fs, alloc, &[("a/LOCK", &[])])?;
+/// Whether a dump of the path is refused.
+pub(crate) fn is_refused<F: FileSystem>(fs: &mut F, alloc: Global, path: &str) -> bool {
+    if fill(fs, alloc, &[("a/LOCK", &[])]).is_err() {
+        return false;
+    }
     match dump_with_file_system(alloc, path, fs) {
         Ok(items) => {
             drop(items);
-            Ok(false)
+            false
         }
-        Err(fault) => Ok(fault.code() == 1),
+        Err(fault) => fault.code() == 1,
     }
-}
-
-fn is_refused_in_memory(alloc: Global, path: &str) -> Result<bool, Fault> {
-    let mut fs = MemoryFileSystem::new(alloc);
-    is_refused(&mut fs, alloc, path)
 }
 
 #[test]
 fn other_paths_are_refused(rt: HostRuntime) {
     for path in &REFUSED {
-        assert_row(&rt, is_refused_in_memory(rt.alloc(), path), path);
+        assert_row(&rt, holds_in_memory(rt.alloc(), &Tried::NoDump(path)), path);
     }
 }

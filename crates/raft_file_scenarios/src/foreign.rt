@@ -1,13 +1,14 @@
 //! What stands in a log's folder and is none of its files: an opening passes it over, and no call reaches it.
 
-use crate::calls::{Step, is_known, take_alone};
-use crate::in_folder::{InFolder, try_in_folder};
-use crate::reads::{bytes_at, place_in, stands_at, text_of, write_at};
-use raft_disk::{DiskFileSystem, OpenFault, is_log_name};
-use raft_env::{FsFault, IoKind};
+use crate::calls::{Step, is_answered, take_alone};
+use crate::disk::{Disk, Reading};
+use crate::in_folder::{Tried, holds_in_folder};
+use crate::reads::{has_bytes, makes_folder, place_in, stands_at, text_of, writes};
+use crate::told::assert_row;
+use raft_disk::{OpenFault, is_log_name};
+use raft_env::{FileSystem, IoKind};
+use std::fs;
 use std::os::unix::fs::symlink;
-use std::test::Fail;
-use std::{fs, io};
 
 const LOG: &str = "0000000000000001.raftlog";
 
@@ -47,25 +48,39 @@ fn names_of_a_log_are_told(rt: HostRuntime) {
     }
 }
 
-fn name_twice(rt: &HostRuntime, folder: &str) -> io::Result<()> {
-    let twice = place_in(rt, folder, "twice")?;
-    let again = place_in(rt, folder, "again")?;
-    fs::hard_link(rt, twice.as_str(), again.as_str())
+fn names_twice(rt: &HostRuntime, folder: &str) -> bool {
+    match (place_in(rt, folder, "twice"), place_in(rt, folder, "again")) {
+        (Some(twice), Some(again)) => fs::hard_link(rt, twice.as_str(), again.as_str()).is_ok(),
+        _ => false,
+    }
+}
+
+fn links(rt: &HostRuntime, folder: &str, to: &str, link: &str) -> bool {
+    match place_in(rt, folder, link) {
+        Some(link) => symlink(rt, to, link.as_str()).is_ok(),
+        None => false,
+    }
+}
+
+fn makes_files(rt: &HostRuntime, folder: &str) -> bool {
+    for path in &[LOG, SPILLED, OTHER, "notes", "twice"] {
+        if !writes(rt, folder, path, KEPT) {
+            return false;
+        }
+    }
+    true
 }
 
 // A log in two folders, a third folder, and foreign things: files, links, and two names of one file.
-fn make(rt: &HostRuntime, folder: &str) -> io::Result<()> {
-    for path in &["s", "s/t", "u"] {
-        fs::create_dir(rt, place_in(rt, folder, path)?.as_str())?;
-    }
-    for path in &[LOG, SPILLED, OTHER, "notes", "twice"] {
-        write_at(rt, folder, path, KEPT)?;
-    }
-    name_twice(rt, folder)?;
-    for (to, link) in &[("notes", "link"), ("nothing", "astray"), ("u", "links")] {
-        symlink(rt, *to, place_in(rt, folder, link)?.as_str())?;
-    }
-    Ok(())
+fn makes(rt: &HostRuntime, folder: &str) -> bool {
+    makes_folder(rt, folder, "s")
+        && makes_folder(rt, folder, "s/t")
+        && makes_folder(rt, folder, "u")
+        && makes_files(rt, folder)
+        && names_twice(rt, folder)
+        && links(rt, folder, "notes", "link")
+        && links(rt, folder, "nothing", "astray")
+        && links(rt, folder, "u", "links")
 }
 
 /// Paths, and whether a file is known there after an opening of all folders, and of the second one alone.
@@ -78,10 +93,10 @@ const KNOWN: [(&str, bool, bool); 6] = [
     ("again", false, false),
 ];
 
-fn knows(files: &DiskFileSystem, all: bool) -> bool {
+fn knows<F: FileSystem>(files: &F, all: bool) -> bool {
     for (path, in_all, in_two) in &KNOWN {
         let wanted = if all { *in_all } else { *in_two };
-        if is_known(files, path) != wanted {
+        if files.is_file(path) != wanted {
             return false;
         }
     }
@@ -113,25 +128,17 @@ const REACHES: [Reach; 10] = [
     Reach::MakeDir("made", None),
 ];
 
-fn is_refused(done: Result<(), FsFault>, wanted: Option<IoKind>) -> bool {
-    match done {
-        Ok(()) => wanted.is_none(),
-        Err(FsFault::Io(kind)) => wanted == Some(kind),
-        Err(FsFault::Memory) => false,
-    }
-}
-
-fn reaches(files: &mut DiskFileSystem, reach: &Reach) -> bool {
+fn reaches<F: FileSystem>(files: &mut F, reach: &Reach) -> bool {
     let (step, wanted) = match reach {
         Reach::Create(path, wanted) => (Step::Create(*path), *wanted),
         Reach::MakeDir(path, wanted) => (Step::MakeDir(*path), *wanted),
         Reach::Delete(path, wanted) => (Step::Delete(*path), *wanted),
         Reach::Rename(path, wanted) => (Step::Rename(LOG, *path), *wanted),
     };
-    is_refused(take_alone(files, &step), wanted)
+    is_answered(take_alone(files, &step), wanted)
 }
 
-fn is_out_of_reach(files: &mut DiskFileSystem) -> bool {
+fn is_out_of_reach<F: FileSystem>(files: &mut F) -> bool {
     for reach in &REACHES {
         if !reaches(files, reach) {
             return false;
@@ -140,40 +147,46 @@ fn is_out_of_reach(files: &mut DiskFileSystem) -> bool {
     true
 }
 
-fn opened(rt: HostRuntime, folder: &str) -> Result<[bool; 3], OpenFault> {
-    let all = knows(&DiskFileSystem::open(rt, folder)?, true);
-    let mut files = DiskFileSystem::open_with(rt, folder, Some("s/t"))?;
-    Ok([all, knows(&files, false), is_out_of_reach(&mut files)])
+fn are_all_known<F: Disk + FileSystem + Drop>(rt: HostRuntime, folder: &str) -> bool {
+    let opened: Result<F, OpenFault> = F::open_folder(rt, folder, Reading::All);
+    match opened {
+        Ok(files) => knows(&files, true),
+        Err(_) => false,
+    }
 }
 
-fn is_kept(rt: &HostRuntime, folder: &str) -> io::Result<bool> {
+fn are_two_known<F: Disk + FileSystem + Drop>(rt: HostRuntime, folder: &str) -> bool {
+    let opened: Result<F, OpenFault> = F::open_folder(rt, folder, Reading::Two("s/t"));
+    match opened {
+        Ok(mut files) => knows(&files, false) && is_out_of_reach(&mut files),
+        Err(_) => false,
+    }
+}
+
+fn are_kept(rt: &HostRuntime, folder: &str) -> bool {
     for path in &[LOG, SPILLED, OTHER, "notes", "twice", "again"] {
-        match bytes_at(rt, folder, path)? {
-            Some(bytes) if bytes.as_slice() == KEPT => {}
-            _ => return Ok(false),
+        if !has_bytes(rt, folder, path, KEPT) {
+            return false;
         }
     }
-    Ok(!stands_at(rt, folder, "nothing")?)
+    stands_at(rt, folder, "nothing") == Some(false)
 }
 
-fn passes_over(rt: HostRuntime, folder: &str) -> Result<([bool; 3], bool), Fail> {
-    make(&rt, folder)?;
-    let opened = opened(rt, folder)?;
-    Ok((opened, is_kept(&rt, folder)?))
-}
-
-#[derive(Drop)]
-struct Foreign;
-
-impl InFolder for Foreign {
-    fn holds(&self, rt: HostRuntime, folder: &str) -> Result<bool, Fail> {
-        Ok(passes_over(rt, folder)? == ([true, true, true], true))
-    }
+/// Whether openings pass over foreign things, and leave them as they are.
+pub(crate) fn are_passed_over<F: Disk + FileSystem + Drop>(rt: HostRuntime, folder: &str) -> bool {
+    makes(&rt, folder)
+        && are_all_known::<F>(rt, folder)
+        && are_two_known::<F>(rt, folder)
+        && are_kept(&rt, folder)
 }
 
 #[test]
-fn foreign_things_are_passed_over(rt: HostRuntime) -> Result<(), Fail> {
-    try_in_folder(rt, "foreign", 0, &Foreign)
+fn foreign_things_are_passed_over(rt: HostRuntime) {
+    assert_row(
+        &rt,
+        holds_in_folder(rt, "foreign", &Tried::Foreign),
+        "foreign",
+    );
 }
 
 /// Paths of a second folder, and the text for which the opening is refused, none where it isn't.
@@ -187,23 +200,38 @@ const SECONDS: [(&str, &str); 7] = [
     ("later/on", ""),
 ];
 
-#[derive(Drop)]
-struct Seconds;
-
-impl InFolder for Seconds {
-    fn holds(&self, rt: HostRuntime, folder: &str) -> Result<bool, Fail> {
-        make(&rt, folder)?;
-        for (second, text) in &SECONDS {
-            let said = text_of(&rt, DiskFileSystem::open_with(rt, folder, Some(*second)))?;
-            if !said.ends_with(*text) || said.is_empty() != text.is_empty() {
-                return Err(Fail::new(*second));
-            }
-        }
-        Ok(true)
+// Whether the opening says the text at its end, or nothing.
+fn is_below<F: Disk + Drop>(
+    rt: HostRuntime,
+    folder: &str,
+    second: &'static str,
+    text: &str,
+) -> bool {
+    let opened: Result<F, OpenFault> = F::open_folder(rt, folder, Reading::Two(second));
+    match text_of(&rt, opened) {
+        Some(said) => said.ends_with(text) && said.is_empty() == text.is_empty(),
+        None => false,
     }
 }
 
+/// Whether openings with second folders come to what is said of each.
+pub(crate) fn are_below<F: Disk + Drop>(rt: HostRuntime, folder: &str) -> bool {
+    if !makes(&rt, folder) {
+        return false;
+    }
+    for (second, text) in &SECONDS {
+        if !is_below::<F>(rt, folder, second, text) {
+            return false;
+        }
+    }
+    true
+}
+
 #[test]
-fn second_folders_are_below(rt: HostRuntime) -> Result<(), Fail> {
-    try_in_folder(rt, "second", 0, &Seconds)
+fn second_folders_are_below(rt: HostRuntime) {
+    assert_row(
+        &rt,
+        holds_in_folder(rt, "second", &Tried::SecondFolders),
+        "second",
+    );
 }

@@ -11,6 +11,8 @@ mod calls;
 #[cfg(test)]
 mod checks;
 #[cfg(test)]
+mod disk;
+#[cfg(test)]
 mod dumps;
 #[cfg(test)]
 mod failing;
@@ -18,6 +20,8 @@ mod failing;
 mod foreign;
 #[cfg(test)]
 mod in_folder;
+#[cfg(test)]
+mod in_memory;
 #[cfg(test)]
 mod log_files;
 #[cfg(test)]

@@ -1,10 +1,11 @@
 //! A log file that is written, cut and read back.
 ghost use Rattle.raft_files.specs.Writer.{IsWriterOf};
 
+use crate::in_memory::{Tried, holds_in_memory};
+use crate::told::assert_row;
 use raft_env::{FileSystem, FsFault};
 use raft_files::{LogFileFormat, LogFileReader, LogFileWriter, LogItemBatchFileReader};
-use raft_memory::MemoryFileSystem;
-use raft_records::{Fault, FileBlockHandle, FileId, LogQueue, Version};
+use raft_records::{FileBlockHandle, FileId, LogQueue, Version};
 use std::alloc::Global;
 
 const V2: LogFileFormat = LogFileFormat {
@@ -61,37 +62,39 @@ fn first_wrong<F: FileSystem>(
     Ok(None)
 }
 
-fn is_block<F: FileSystem>(
-    fs: &mut F,
-    alloc: Global,
-    reader: &mut LogFileReader<F>,
-) -> Result<bool, FsFault> {
+fn is_block<F: FileSystem>(fs: &mut F, alloc: Global, reader: &mut LogFileReader<F>) -> bool {
     let place = FileBlockHandle {
         id: FileId::new(LogQueue::Append, 1),
         offset: 74,
         len: 20,
     };
-    let block = reader.read(fs, alloc, place)?;
-    Ok(block.as_slice() == b"secondthird".as_slice())
+    match reader.read(fs, alloc, place) {
+        Ok(block) => block.as_slice() == b"secondthird".as_slice(),
+        Err(_) => false,
+    }
 }
 
-fn are_found<F: FileSystem>(
-    fs: &mut F,
-    alloc: Global,
-    reader: &mut LogFileReader<F>,
-) -> Result<bool, FsFault> {
-    let found = reader.file_size() == 85 && reader.parse_format(fs)? == Some(V2);
-    let block = is_block(fs, alloc, reader)?;
+fn is_end<F: FileSystem>(fs: &mut F, reader: &mut LogFileReader<F>) -> bool {
     let mut bytes = [0; 3];
-    let count = reader.read_to(fs, 83, &mut bytes)?;
-    Ok(found && block && count == 2 && bytes == *b"rd\0")
+    reader.read_to(fs, 83, &mut bytes) == Ok(2) && bytes == *b"rd\0"
 }
 
-fn is_read<F: FileSystem>(fs: &mut F, alloc: Global, handle: &F::Handle) -> Result<bool, FsFault> {
-    let mut reader = LogFileReader::open(fs, handle)?;
-    let found = are_found(fs, alloc, &mut reader);
-    reader.end(fs);
-    found
+fn are_found<F: FileSystem>(fs: &mut F, alloc: Global, reader: &mut LogFileReader<F>) -> bool {
+    reader.file_size() == 85
+        && reader.parse_format(fs) == Ok(Some(V2))
+        && is_block(fs, alloc, reader)
+        && is_end(fs, reader)
+}
+
+fn is_read<F: FileSystem>(fs: &mut F, alloc: Global, handle: &F::Handle) -> bool {
+    match LogFileReader::open(fs, handle) {
+        Ok(mut reader) => {
+            let found = are_found(fs, alloc, &mut reader);
+            reader.end(fs);
+            found
+        }
+        Err(_) => false,
+    }
 }
 
 // Where the file ends for a writer that finds it, and for one that writes a header of version 1 over it.
@@ -117,14 +120,11 @@ fn reader_of_record<F: FileSystem>(fs: &mut F, alloc: Global) -> Result<LogFileR
     LogFileReader::open(fs, &handle)
 }
 
-// How many items the next batch has.
-fn next_len<F: FileSystem>(
-    fs: &mut F,
-    records: &mut LogItemBatchFileReader<F>,
-) -> Result<Option<usize>, Fault> {
-    match records.next(fs, "records")? {
-        Some(batch) => Ok(Some(batch.into_items().len())),
-        None => Ok(None),
+// Whether the next batch has no items.
+fn next_is_empty<F: FileSystem>(fs: &mut F, records: &mut LogItemBatchFileReader<F>) -> bool {
+    match records.next(fs, "records") {
+        Ok(Some(batch)) => batch.into_items().is_empty(),
+        _ => false,
     }
 }
 
@@ -132,48 +132,53 @@ fn ends_at<F: FileSystem>(
     fs: &mut F,
     records: &mut LogItemBatchFileReader<F>,
     offset: usize,
-) -> Result<bool, Fault> {
-    Ok(next_len(fs, records)?.is_none() && records.valid_offset() == offset)
-}
-
-fn are_replayed<F: FileSystem>(
-    fs: &mut F,
-    records: &mut LogItemBatchFileReader<F>,
-    reader: LogFileReader<F>,
-) -> Result<bool, Fault> {
-    let id = FileId::new(LogQueue::Append, 1);
-    let format = records.open(fs, id, "records", reader)?;
-    let items = next_len(fs, records)?;
-    let is_at_end = ends_at(fs, records, 90)?;
-    records.reset(fs);
-    let is_closed = ends_at(fs, records, 0)?;
-    Ok(format == V2 && items == Some(0) && is_at_end && is_closed)
-}
-
-fn is_replayed<F: FileSystem>(fs: &mut F, alloc: Global) -> Result<bool, FsFault> {
-    let reader = reader_of_record(fs, alloc)?;
-    let mut records = LogItemBatchFileReader::new(alloc, 512);
-    match are_replayed(fs, &mut records, reader) {
-        Ok(replayed) => Ok(replayed),
-        Err(_) => Ok(false),
+) -> bool {
+    match records.next(fs, "records") {
+        Ok(None) => records.valid_offset() == offset,
+        _ => false,
     }
 }
 
-fn is_written_and_read<F: FileSystem>(fs: &mut F, alloc: Global) -> Result<bool, FsFault> {
-    let handle = fs.create("log")?;
-    let written = first_wrong(fs, alloc, &handle)?.is_none();
-    let read = is_read(fs, alloc, &handle)?;
-    let replayed = is_replayed(fs, alloc)?;
-    Ok(written && read && replayed && ends(fs, alloc, &handle)? == (85, 61))
+fn opens<F: FileSystem>(
+    fs: &mut F,
+    records: &mut LogItemBatchFileReader<F>,
+    reader: LogFileReader<F>,
+) -> bool {
+    match records.open(fs, FileId::new(LogQueue::Append, 1), "records", reader) {
+        Ok(format) => format == V2,
+        Err(_) => false,
+    }
 }
 
-fn is_read_back(alloc: Global) -> Result<bool, FsFault> {
-    let mut fs = MemoryFileSystem::new(alloc);
-    is_written_and_read(&mut fs, alloc)
+fn is_replayed<F: FileSystem>(fs: &mut F, alloc: Global) -> bool {
+    let mut records = LogItemBatchFileReader::new(alloc, 512);
+    let is_open = match reader_of_record(fs, alloc) {
+        Ok(reader) => opens(fs, &mut records, reader),
+        Err(_) => false,
+    };
+    let is_read = is_open && next_is_empty(fs, &mut records) && ends_at(fs, &mut records, 90);
+    records.reset(fs);
+    is_read && ends_at(fs, &mut records, 0)
+}
+
+/// Whether what is written is read back.
+pub(crate) fn is_read_back<F: FileSystem>(fs: &mut F, alloc: Global) -> bool {
+    match fs.create("log") {
+        Ok(handle) => {
+            first_wrong(fs, alloc, &handle) == Ok(None)
+                && is_read(fs, alloc, &handle)
+                && is_replayed(fs, alloc)
+                && ends(fs, alloc, &handle) == Ok((85, 61))
+        }
+        Err(_) => false,
+    }
 }
 
 #[test]
 fn written_bytes_are_read_back(rt: HostRuntime) {
-    let held = is_read_back(rt.alloc());
-    assert!(rt; matches!(held, Ok(true)), "{held:?}");
+    assert_row(
+        &rt,
+        holds_in_memory(rt.alloc(), &Tried::LogFile),
+        "a log file",
+    );
 }

@@ -1,12 +1,12 @@
 //! What is told before an opening of what it loses.
 
-use crate::told::{assert_row, assert_rows};
+use crate::in_memory::{Tried, holds_in_memory};
+use crate::told::{assert_case, assert_row};
 use raft_config::{Config, RecoveryMode};
 use raft_env::FileSystem;
-use raft_inspect::{Cut, Losses, Passed, Unexplained, inspect};
-use raft_memory::MemoryFileSystem;
+use raft_inspect::{Cut, Losses, Passed, QueueFiles, Unexplained, inspect};
 use raft_records::{Fault, Fresh, LogQueue};
-use raft_rows::{FileParts, HEADER, PUT, PUTS, Row, ZEROS, fill};
+use raft_rows::{FileParts, HEADER, PUT, PUTS, ZEROS, fill};
 use std::alloc::Global;
 
 /// A path, where the bytes begin that are cut off and how many there are, and why an unsynced tail
@@ -14,7 +14,7 @@ use std::alloc::Global;
 struct WantedCut(&'static str, usize, usize, Option<Unexplained>);
 
 /// Files, a mode, whether the opening fails, what it cuts off, and what it passes over.
-struct Case(
+pub(crate) struct Case(
     &'static [FileParts],
     RecoveryMode,
     bool,
@@ -116,7 +116,7 @@ static CASES: [Case; 13] = [
 const NO_HEADER: &[FileParts] = &[(FIRST, &[HEADER, PUT]), (SECOND, &[ZEROS])];
 
 /// Files, a queue, and its last file where that holds nothing and another one stands before it.
-struct EmptyLast(&'static [FileParts], LogQueue, Option<&'static str>);
+pub(crate) struct EmptyLast(&'static [FileParts], LogQueue, Option<&'static str>);
 
 static EMPTY_LASTS: [EmptyLast; 5] = [
     EmptyLast(WHOLE, LogQueue::Rewrite, Some("a/0000000000000005.rewrite")),
@@ -134,91 +134,110 @@ fn settings(alloc: Global, mode: RecoveryMode) -> Result<Config, Fault> {
     Ok(config)
 }
 
+fn is_wanted<F: FileSystem>(fs: &mut F, alloc: Global, cut: &Cut, wanted: &WantedCut) -> bool {
+    let WantedCut(path, offset, len, unexplained) = wanted;
+    let Ok(bytes) = cut.bytes(alloc, fs) else {
+        return false;
+    };
+    let Ok(why) = cut.unexplained(alloc, &bytes) else {
+        return false;
+    };
+    cut.path.as_str() == *path
+        && cut.offset == *offset
+        && cut.len == *len
+        && bytes.len() == *len
+        && why == *unexplained
+}
+
 fn are_wanted<F: FileSystem>(
     fs: &mut F,
     alloc: Global,
     cuts: &[Cut],
     wanted: &[WantedCut],
-) -> Result<bool, Fault> {
-    for (cut, WantedCut(path, offset, len, unexplained)) in cuts.iter().zip(wanted) {
-        let bytes = cut.bytes(alloc, fs)?;
-        let is_wanted = cut.path.as_str() == *path
-            && cut.offset == *offset
-            && cut.len == *len
-            && bytes.len() == *len
-            && cut.unexplained(alloc, &bytes)? == *unexplained;
-        if !is_wanted {
-            return Ok(false);
+) -> bool {
+    for (cut, wanted) in cuts.iter().zip(wanted) {
+        if !is_wanted(fs, alloc, cut, wanted) {
+            return false;
         }
     }
-    Ok(cuts.len() == wanted.len())
+    cuts.len() == wanted.len()
 }
 
 fn found<F: FileSystem>(fs: &mut F, alloc: Global, mode: RecoveryMode) -> Result<Losses, Fault> {
     Losses::find(alloc, &settings(alloc, mode)?, fs)
 }
 
-fn is_told<F: FileSystem>(fs: &mut F, alloc: Global, case: &Case) -> Result<bool, Fault> {
+/// Whether what is told is what the case says.
+pub(crate) fn is_told<F: FileSystem>(fs: &mut F, alloc: Global, case: &Case) -> bool {
     let Case(files, mode, fails, cuts, passed) = case;
-    fill(fs, alloc, files)?;
-    let losses = found(fs, alloc, *mode)?;
-    let are_others_so = losses.fails == *fails && losses.passed.as_slice() == *passed;
-    Ok(are_others_so && are_wanted(fs, alloc, &losses.cuts, cuts)?)
-}
-
-impl Row for Case {
-    type State = ();
-
-    fn holds(&self, alloc: Global, _: &mut ()) -> Result<bool, Fault> {
-        let mut fs = MemoryFileSystem::new(alloc);
-        is_told(&mut fs, alloc, self)
+    if fill(fs, alloc, files).is_err() {
+        return false;
+    }
+    match found(fs, alloc, *mode) {
+        Ok(losses) => {
+            losses.fails == *fails
+                && losses.passed.as_slice() == *passed
+                && are_wanted(fs, alloc, &losses.cuts, cuts)
+        }
+        Err(_) => false,
     }
 }
 
 #[test]
 fn losses_are_told_before_an_opening(rt: HostRuntime) {
-    assert_rows(&rt, rt.alloc(), &mut (), &CASES);
+    for (place, case) in CASES.iter().enumerate() {
+        assert_case(
+            &rt,
+            holds_in_memory(rt.alloc(), &Tried::Losses(case)),
+            place,
+        );
+    }
 }
 
-// Whether the last file that holds nothing is told, or none.
-fn is_last<F: FileSystem>(fs: &mut F, alloc: Global, row: &EmptyLast) -> Result<bool, Fault> {
+fn is_empty_last(found: &QueueFiles, wanted: Option<&'static str>) -> bool {
+    match (found.empty_last(), wanted) {
+        (Some(path), Some(wanted)) => path == wanted,
+        (None, None) => true,
+        _ => false,
+    }
+}
+
+/// Whether the last file that holds nothing is told, or none.
+pub(crate) fn is_last<F: FileSystem>(fs: &mut F, alloc: Global, row: &EmptyLast) -> bool {
     let EmptyLast(files, queue, wanted) = row;
-    fill(fs, alloc, files)?;
-    let found = inspect(alloc, fs, &["a", "b"], *queue)?;
-    let Some(path) = found.empty_last() else {
-        return Ok(wanted.is_none());
-    };
-    Ok(match wanted {
-        Some(wanted) => *path == **wanted,
-        None => false,
-    })
-}
-
-impl Row for EmptyLast {
-    type State = ();
-
-    fn holds(&self, alloc: Global, _: &mut ()) -> Result<bool, Fault> {
-        let mut fs = MemoryFileSystem::new(alloc);
-        is_last(&mut fs, alloc, self)
+    if fill(fs, alloc, files).is_err() {
+        return false;
+    }
+    match inspect(alloc, fs, &["a", "b"], *queue) {
+        Ok(found) => is_empty_last(&found, *wanted),
+        Err(_) => false,
     }
 }
 
 #[test]
 fn a_last_file_that_holds_nothing_is_told(rt: HostRuntime) {
-    assert_rows(&rt, rt.alloc(), &mut (), &EMPTY_LASTS);
+    for (place, row) in EMPTY_LASTS.iter().enumerate() {
+        assert_case(
+            &rt,
+            holds_in_memory(rt.alloc(), &Tried::EmptyLast(row)),
+            place,
+        );
+    }
 }
 
-fn loses_nothing<F: FileSystem>(fs: &mut F, alloc: Global) -> Result<bool, Fault> {
-    let losses = found(fs, alloc, TAIL)?;
-    Ok(!losses.fails && losses.cuts.is_empty() && losses.passed.is_empty())
-}
-
-fn nothing_is_lost(alloc: Global) -> Result<bool, Fault> {
-    let mut fs = MemoryFileSystem::new(alloc);
-    loses_nothing(&mut fs, alloc)
+/// Whether nothing is told if no folder is there.
+pub(crate) fn loses_nothing<F: FileSystem>(fs: &mut F, alloc: Global) -> bool {
+    match found(fs, alloc, TAIL) {
+        Ok(losses) => !losses.fails && losses.cuts.is_empty() && losses.passed.is_empty(),
+        Err(_) => false,
+    }
 }
 
 #[test]
 fn folders_that_are_not_there_have_no_files(rt: HostRuntime) {
-    assert_row(&rt, nothing_is_lost(rt.alloc()), "no folders");
+    assert_row(
+        &rt,
+        holds_in_memory(rt.alloc(), &Tried::NoFolders),
+        "no folders",
+    );
 }

@@ -1,11 +1,11 @@
 //! What an opening of a folder says of files that someone took away or put there.
 
-use crate::in_folder::{InFolder, try_in_folder};
-use crate::reads::{place_in, write_at};
-use raft_disk::{DiskFileSystem, OpenFault};
+use crate::disk::{Disk, Reading};
+use crate::in_folder::{Tried, holds_in_folder};
+use crate::reads::{loses, writes};
+use crate::told::{assert_case, assert_row};
+use raft_disk::{DiskCounts, OpenFault};
 use raft_env::FileSystem;
-use std::fs;
-use std::test::Fail;
 
 const A: &str = "0000000000000001.raftlog";
 
@@ -23,7 +23,7 @@ const R: &str = "0000000000000001.rewrite";
 const BEGUN: [&str; 5] = [A, B, C, D, R];
 
 #[derive(Clone, Copy)]
-enum Step {
+pub(crate) enum Step {
     /// The log makes a file, deletes one, or renames one.
     Make(&'static str),
     Delete(&'static str),
@@ -37,7 +37,7 @@ enum Step {
 use Step::{Accept, Delete, Make, Put, Rename, Take};
 
 /// The steps of each of several openings, and what the last opening says of files.
-struct Case(&'static [&'static [Step]], Option<&'static str>);
+pub(crate) struct Case(&'static [&'static [Step]], Option<&'static str>);
 
 static CASES: [Case; 12] = [
     Case(&[], None),
@@ -78,95 +78,147 @@ static CASES: [Case; 12] = [
     Case(&[&[Take(B)], &[Delete(A), Delete(C)], &[Accept]], None),
 ];
 
-impl Step {
-    // What the log does.
-    fn take(&self, files: &mut DiskFileSystem) -> Result<(), Fail> {
-        match *self {
-            Step::Make(path) => {
-                files.create(path)?;
-            }
-            Step::Delete(path) => files.delete(path)?,
-            Step::Rename(from, to) => files.rename(from, to)?,
-            Step::Take(_) | Step::Put(_) | Step::Accept => {}
-        }
-        Ok(())
-    }
-
-    // What is done to the folder while nobody has it open.
-    fn disturb(&self, rt: &HostRuntime, folder: &str) -> Result<(), Fail> {
-        match *self {
-            Step::Take(path) => fs::remove_file(rt, place_in(rt, folder, path)?.as_str())?,
-            Step::Put(path) => write_at(rt, folder, path, b"")?,
-            Step::Accept => DiskFileSystem::forget_spans(*rt, folder)?,
-            Step::Make(_) | Step::Delete(_) | Step::Rename(_, _) => {}
-        }
-        Ok(())
+// What the log does.
+fn takes<F: FileSystem>(files: &mut F, step: &Step) -> bool {
+    match *step {
+        Step::Make(path) => files.create(path).is_ok(),
+        Step::Delete(path) => files.delete(path).is_ok(),
+        Step::Rename(from, to) => files.rename(from, to).is_ok(),
+        Step::Take(_) | Step::Put(_) | Step::Accept => true,
     }
 }
 
-fn open_and_take(rt: HostRuntime, folder: &str, steps: &[Step]) -> Result<(), Fail> {
-    let mut files = DiskFileSystem::open(rt, folder)?;
+fn takes_each<F: FileSystem>(files: &mut F, steps: &[Step]) -> bool {
     for step in steps {
-        step.take(&mut files)?;
+        if !takes(files, step) {
+            return false;
+        }
     }
-    Ok(())
+    true
 }
 
-impl InFolder for Case {
-    fn holds(&self, rt: HostRuntime, folder: &str) -> Result<bool, Fail> {
-        let Case(openings, wanted) = self;
-        for name in BEGUN {
-            open_and_take(rt, folder, &[Step::Make(name)])?;
-        }
-        for steps in *openings {
-            open_and_take(rt, folder, steps)?;
-            for step in *steps {
-                step.disturb(&rt, folder)?;
-            }
-        }
-        match (DiskFileSystem::open_whole(rt, folder, None), wanted) {
-            (Ok(_), None) => Ok(true),
-            (Err(OpenFault::Lost(_, files)), Some(wanted)) => Ok(files.as_str() == *wanted),
-            _ => Ok(false),
+// What is done to the folder while nobody has it open.
+fn disturbs<F: Disk>(rt: HostRuntime, folder: &str, step: &Step) -> bool {
+    match *step {
+        Step::Take(path) => loses(&rt, folder, path),
+        Step::Put(path) => writes(&rt, folder, path, b""),
+        Step::Accept => F::forget(rt, folder).is_ok(),
+        Step::Make(_) | Step::Delete(_) | Step::Rename(_, _) => true,
+    }
+}
+
+fn disturbs_each<F: Disk>(rt: HostRuntime, folder: &str, steps: &[Step]) -> bool {
+    for step in steps {
+        if !disturbs::<F>(rt, folder, step) {
+            return false;
         }
     }
+    true
+}
+
+fn opens<F: Disk + FileSystem + Drop>(rt: HostRuntime, folder: &str, steps: &[Step]) -> bool {
+    let opened: Result<F, OpenFault> = F::open_folder(rt, folder, Reading::All);
+    match opened {
+        Ok(mut files) => takes_each(&mut files, steps),
+        Err(_) => false,
+    }
+}
+
+fn begins<F: Disk + FileSystem + Drop>(rt: HostRuntime, folder: &str) -> bool {
+    for name in BEGUN {
+        if !opens::<F>(rt, folder, &[Step::Make(name)]) {
+            return false;
+        }
+    }
+    true
+}
+
+fn goes_on<F: Disk + FileSystem + Drop>(
+    rt: HostRuntime,
+    folder: &str,
+    openings: &[&'static [Step]],
+) -> bool {
+    for steps in openings {
+        if !opens::<F>(rt, folder, steps) || !disturbs_each::<F>(rt, folder, steps) {
+            return false;
+        }
+    }
+    true
+}
+
+// Whether the last opening says this of files.
+fn says<F: Disk + Drop>(rt: HostRuntime, folder: &str, wanted: Option<&'static str>) -> bool {
+    let opened: Result<F, OpenFault> = F::open_folder(rt, folder, Reading::Whole);
+    match (opened, wanted) {
+        (Ok(_), None) => true,
+        (Err(OpenFault::Lost(_, files)), Some(wanted)) => files.as_str() == wanted,
+        _ => false,
+    }
+}
+
+/// Whether the last opening says what is wanted of files.
+pub(crate) fn is_reported<F: Disk + FileSystem + Drop>(
+    rt: HostRuntime,
+    folder: &str,
+    case: &Case,
+) -> bool {
+    let Case(openings, wanted) = case;
+    begins::<F>(rt, folder) && goes_on::<F>(rt, folder, openings) && says::<F>(rt, folder, *wanted)
 }
 
 #[test]
-fn lost_files_are_reported_until_they_are_accepted(rt: HostRuntime) -> Result<(), Fail> {
+fn lost_files_are_reported_until_they_are_accepted(rt: HostRuntime) {
     for (place, case) in CASES.iter().enumerate() {
-        try_in_folder(rt, "lost_files", place, case)?;
+        let held = holds_in_folder(rt, "lost_files", &Tried::Lost(case));
+        assert_case(&rt, held, place);
     }
-    Ok(())
 }
 
-/// Calls that are counted.
-struct Counted;
+fn writes_twice<F: FileSystem>(files: &mut F, handle: &F::Handle) -> bool {
+    match files.new_writer(handle) {
+        Ok(mut writer) => {
+            files.write(&mut writer, 0, b"three").is_ok()
+                && files.write(&mut writer, 5, b"more").is_ok()
+                && files.sync(&mut writer).is_ok()
+        }
+        Err(_) => false,
+    }
+}
 
-impl InFolder for Counted {
-    fn holds(&self, rt: HostRuntime, folder: &str) -> Result<bool, Fail> {
-        let mut files = DiskFileSystem::open(rt, folder)?;
-        let handle = files.create(A)?;
-        let mut writer = files.new_writer(&handle)?;
-        files.write(&mut writer, 0, b"three")?;
-        files.write(&mut writer, 5, b"more")?;
-        files.sync(&mut writer)?;
-        files.create(B)?;
-        files.rename(A, C)?;
-        files.delete(B)?;
-        let counts = files.counts();
-        let calls = (counts.writes, counts.bytes, counts.syncs);
-        let names = (
-            counts.next_files,
-            counts.recycled_files,
-            counts.deleted_files,
-        );
-        let timed: u64 = counts.sync_times.iter().sum();
-        Ok(calls == (2, 9, 1) && names == (3, 1, 1) && timed == 1)
+// Calls that are counted.
+fn calls<F: FileSystem>(files: &mut F) -> bool {
+    let is_written = match files.create(A) {
+        Ok(handle) => writes_twice(files, &handle),
+        Err(_) => false,
+    };
+    is_written && files.create(B).is_ok() && files.rename(A, C).is_ok() && files.delete(B).is_ok()
+}
+
+fn are_so(counts: &DiskCounts) -> bool {
+    let calls = (counts.writes, counts.bytes, counts.syncs);
+    let names = (
+        counts.next_files,
+        counts.recycled_files,
+        counts.deleted_files,
+    );
+    let timed: u64 = counts.sync_times.iter().sum();
+    calls == (2, 9, 1) && names == (3, 1, 1) && timed == 1
+}
+
+/// Whether the calls of a folder are counted.
+pub(crate) fn are_counted<F: Disk + FileSystem + Drop>(rt: HostRuntime, folder: &str) -> bool {
+    let opened: Result<F, OpenFault> = F::open_folder(rt, folder, Reading::All);
+    match opened {
+        Ok(mut files) => calls(&mut files) && are_so(&files.call_counts()),
+        Err(_) => false,
     }
 }
 
 #[test]
-fn calls_of_a_folder_are_counted(rt: HostRuntime) -> Result<(), Fail> {
-    try_in_folder(rt, "counted", 0, &Counted)
+fn calls_of_a_folder_are_counted(rt: HostRuntime) {
+    assert_row(
+        &rt,
+        holds_in_folder(rt, "counted", &Tried::Counted),
+        "counted",
+    );
 }

@@ -1,11 +1,12 @@
 //! Files in memory: calls and looks at them, refusals and crashes, one after the other.
 
 use crate::failing::Failing;
+use crate::in_memory::{Tried, holds_in_memory};
+use crate::told::assert_row;
 use raft_env::{FileSystem, FsFault, IoKind, Permission};
-use raft_memory::{Choice, FsCall, MemoryFileSystem};
+use raft_memory::{Choice, FsCall};
 use raft_records::Fault;
 use std::alloc::{AllocError, Global};
-use std::test::Fail;
 
 enum Call {
     MakeDir(&'static str),
@@ -54,7 +55,7 @@ enum Step {
 }
 
 /// Steps from no files on.
-struct Script {
+pub(crate) struct Script {
     name: &'static str,
     steps: &'static [Step],
 }
@@ -328,67 +329,59 @@ fn choices(alloc: Global, left: &Left) -> Result<Vec<Choice>, AllocError> {
     Ok(vec![in alloc; choice]?)
 }
 
-fn leaves<F: Failing>(
-    alloc: Global,
-    fs: &F,
-    left: &Left,
-    count: usize,
-    bytes: &[u8],
-) -> Result<bool, Fail> {
-    let mut after = fs.crashed(&choices(alloc, left)?)?;
-    Ok(reads(alloc, &mut after, "a", count, bytes)?)
+fn crashed<F: Failing>(alloc: Global, fs: &F, left: &Left) -> Result<F, Fault> {
+    fs.crashed(&choices(alloc, left)?)
 }
 
-fn leaves_not<F: Failing>(alloc: Global, fs: &F, left: &Left) -> Result<bool, AllocError> {
-    match fs.crashed(&choices(alloc, left)?) {
-        Ok(_) => Ok(false),
-        Err(fault) => Ok(fault.code() == 1),
+fn leaves<F: Failing>(alloc: Global, fs: &F, left: &Left, count: usize, bytes: &[u8]) -> bool {
+    match crashed(alloc, fs, left) {
+        Ok(mut after) => reads(alloc, &mut after, "a", count, bytes) == Ok(true),
+        Err(_) => false,
+    }
+}
+
+fn leaves_not<F: Failing>(alloc: Global, fs: &F, left: &Left) -> bool {
+    match crashed(alloc, fs, left) {
+        Ok(_) => false,
+        Err(fault) => fault.code() == 1,
     }
 }
 
 // Whether the step comes to what the script says.
-fn holds<F: Failing>(alloc: Global, fs: &mut F, step: &Step) -> Result<bool, Fail> {
+fn holds<F: Failing>(alloc: Global, fs: &mut F, step: &Step) -> bool {
     match step {
-        Step::Does(wanted) => Ok(is_answered(alloc, fs, wanted)?),
-        Step::Refuses(wanted, kind) => Ok(
-            is_answered(alloc, fs, wanted) == Err(FsFault::Io(*kind)),
-        ),
-        Step::IsFolder(path, wanted) => Ok(fs.is_dir(path) == *wanted),
-        Step::IsFile(path, wanted) => Ok(fs.is_file(path) == *wanted),
-        Step::Refused(count) => Ok(fs.refusals() == *count),
-        Step::Arm(sort, nth) => Ok(fs.fail(*sort, *nth, IoKind::NoSpace).is_ok()),
-        Step::ArmNone(sort) => Ok(fs.fail(*sort, 0, IoKind::NoSpace).is_err()),
+        Step::Does(wanted) => is_answered(alloc, fs, wanted) == Ok(true),
+        Step::Refuses(wanted, kind) => { is_answered(alloc, fs, wanted) == Err(FsFault::Io(*kind)) }
+        Step::IsFolder(path, wanted) => fs.is_dir(path) == *wanted,
+        Step::IsFile(path, wanted) => fs.is_file(path) == *wanted,
+        Step::Refused(count) => fs.refusals() == *count,
+        Step::Arm(sort, nth) => fs.fail(*sort, *nth, IoKind::NoSpace).is_ok(),
+        Step::ArmNone(sort) => fs.fail(*sort, 0, IoKind::NoSpace).is_err(),
         Step::Stop(nth) => {
             fs.stop(*nth);
-            Ok(true)
+            true
         }
         Step::Leaves(left, count, bytes) => leaves(alloc, fs, left, *count, bytes),
-        Step::LeavesNot(left) => Ok(leaves_not(alloc, fs, left)?),
+        Step::LeavesNot(left) => leaves_not(alloc, fs, left),
     }
 }
 
-// Plays the steps, and tells the first that comes to something else.
-fn play<F: Failing>(alloc: Global, script: &Script) -> Result<(), Fail> {
-    let mut fs = F::fresh(alloc);
-    for (place, wanted) in script.steps.iter().enumerate() {
-        if !holds(alloc, &mut fs, wanted)? {
-            let name = script.name;
-            return Err(Fail::new(format_args!("{name}: step {place}")));
+/// Whether each step comes to what the script says.
+pub(crate) fn is_played<F: Failing>(fs: &mut F, alloc: Global, script: &Script) -> bool {
+    for step in script.steps {
+        if !holds(alloc, fs, step) {
+            return false;
         }
     }
-    Ok(())
-}
-
-fn play_in_memory(alloc: Global, script: &Script) -> Result<(), Fail> {
-    play::<MemoryFileSystem>(alloc, script)
+    true
 }
 
 #[test]
-fn files_are_as_the_scripts_say(rt: HostRuntime) -> Result<(), Fail> {
+fn files_are_as_the_scripts_say(rt: HostRuntime) {
     for script in &scripts() {
-        play_in_memory(rt.alloc(), script)?;
+        let held = holds_in_memory(rt.alloc(), &Tried::Script(script));
+        assert_row(&rt, held, script.name);
     }
-    Ok(())
 }
 
 fn has_kind_and_path(alloc: Global) -> bool {

@@ -1,13 +1,12 @@
 //! Openings that fail: what they say, and that what stood there stands as it did.
 
-use crate::in_folder::{InFolder, try_in_folder};
-use crate::reads::{place_in, text_of, write_at};
-use raft_disk::DiskFileSystem;
-use std::alloc::AllocError;
-use std::fs::{self, DirEntry};
-use std::io;
+use crate::disk::{Disk, Reading};
+use crate::in_folder::{Tried, holds_in_folder};
+use crate::reads::{makes_folder, place_in, sets_writable, standing, stands_so, text_of, writes};
+use crate::told::{assert_case, assert_row};
+use raft_disk::OpenFault;
+use std::fs;
 use std::os::unix::fs::symlink;
-use std::test::Fail;
 
 /// What stands in the test's folder, by its name.
 enum Made {
@@ -20,7 +19,7 @@ enum Made {
 }
 
 /// What is opened, and the fault's path and text. The paths go on from the test's folder.
-struct Case {
+pub(crate) struct Case {
     made: &'static [Made],
     opened: &'static str,
     named: &'static str,
@@ -39,7 +38,7 @@ const LOG_IN_G: &str = "g/0000000000000001.raftlog";
 
 const NOT_PLAIN: &str = "neither a folder nor a file of one name";
 
-const CASES: [Case; 7] = [
+static CASES: [Case; 7] = [
     Case {
         made: &[Made::File("f")],
         opened: "/f",
@@ -89,127 +88,138 @@ const CASES: [Case; 7] = [
     },
 ];
 
-fn make(rt: &HostRuntime, folder: &str, made: &Made) -> io::Result<()> {
+fn links(rt: &HostRuntime, folder: &str, name: &str, link: &str) -> bool {
+    match place_in(rt, folder, link) {
+        Some(link) => symlink(rt, name, link.as_str()).is_ok(),
+        None => false,
+    }
+}
+
+fn names_again(rt: &HostRuntime, folder: &str, name: &str, second: &str) -> bool {
+    match (place_in(rt, folder, name), place_in(rt, folder, second)) {
+        (Some(name), Some(second)) => fs::hard_link(rt, name.as_str(), second.as_str()).is_ok(),
+        _ => false,
+    }
+}
+
+fn makes(rt: &HostRuntime, folder: &str, made: &Made) -> bool {
     match made {
-        Made::Folder(name) => fs::create_dir(rt, place_in(rt, folder, name)?.as_str()),
-        Made::File(name) => write_at(rt, folder, name, b"kept"),
-        Made::Link(name, link) => {
-            let link = place_in(rt, folder, link)?;
-            symlink(rt, *name, link.as_str())
+        Made::Folder(name) => makes_folder(rt, folder, name),
+        Made::File(name) => writes(rt, folder, name, b"kept"),
+        Made::Link(name, link) => links(rt, folder, name, link),
+        Made::Name(name, second) => names_again(rt, folder, name, second),
+    }
+}
+
+fn makes_each(rt: &HostRuntime, folder: &str, made: &[Made]) -> bool {
+    for one in made {
+        if !makes(rt, folder, one) {
+            return false;
         }
-        Made::Name(name, second) => {
-            let place = place_in(rt, folder, name)?;
-            let second = place_in(rt, folder, second)?;
-            fs::hard_link(rt, place.as_str(), second.as_str())
-        }
+    }
+    true
+}
+
+// What an opening says, which is nothing if it doesn't fail.
+fn fault_of<F: Disk + Drop>(rt: HostRuntime, place: &str) -> Option<String> {
+    let opened: Result<F, OpenFault> = F::open_folder(rt, place, Reading::All);
+    text_of(&rt, opened)
+}
+
+// Whether the opening of a place below the folder fails with this text of a place below it.
+fn says<F: Disk + Drop>(rt: HostRuntime, folder: &str, case: &Case) -> bool {
+    let opened = format!(in rt.alloc(); "{folder}{}", case.opened);
+    let wanted = format!(in rt.alloc(); "{folder}{}: {}", case.named, case.text);
+    let (Ok(opened), Ok(wanted)) = (opened, wanted) else {
+        return false;
+    };
+    match fault_of::<F>(rt, opened.as_str()) {
+        Some(fault) => fault.starts_with(wanted.as_str()),
+        None => false,
     }
 }
 
-fn add_line(rt: &HostRuntime, entry: &DirEntry, lines: &mut Vec<String>) -> Result<(), Fail> {
-    let name = entry.file_name();
-    if !entry.metadata()?.is_file() {
-        lines.push(format!(in rt.alloc(); "{name}")?)?;
-    } else if name != "LOCK" {
-        let text = fs::read_to_string(rt, entry.path())?;
-        lines.push(format!(in rt.alloc(); "{name}: {text}")?)?;
+/// Whether the opening fails with this text, and leaves the folder as it was.
+pub(crate) fn fails_so<F: Disk + Drop>(rt: HostRuntime, folder: &str, case: &Case) -> bool {
+    if !makes_each(&rt, folder, case.made) {
+        return false;
     }
-    Ok(())
-}
-
-// The names in a folder, and the texts of the files, but for a lock's file.
-fn standing(rt: &HostRuntime, folder: &str) -> Result<Vec<String>, Fail> {
-    let mut lines = Vec::new(rt.alloc());
-    for entry in fs::read_dir(rt, folder)? {
-        let entry = entry?;
-        add_line(rt, &entry, &mut lines)?;
-    }
-    lines.sort()?;
-    Ok(lines)
-}
-
-// What an opening says, which is nothing where it doesn't fail.
-fn fault_of(rt: HostRuntime, place: &str) -> Result<String, AllocError> {
-    text_of(&rt, DiskFileSystem::open(rt, place))
-}
-
-// Whether the opening fails with this text, and leaves what stood there.
-fn fails_so(rt: HostRuntime, folder: &str, case: &Case) -> Result<bool, Fail> {
-    for made in case.made {
-        make(&rt, folder, made)?;
-    }
-    let before = standing(&rt, folder)?;
-    let opened = format!(in rt.alloc(); "{folder}{}", case.opened)?;
-    let wanted = format!(in rt.alloc(); "{folder}{}: {}", case.named, case.text)?;
-    let fault = fault_of(rt, opened.as_str())?;
-    Ok(fault.starts_with(wanted.as_str()) && standing(&rt, folder)? == before)
-}
-
-impl InFolder for Case {
-    fn holds(&self, rt: HostRuntime, folder: &str) -> Result<bool, Fail> {
-        fails_so(rt, folder, self)
-    }
+    // The opening may make the lock's file.
+    let Some(before) = standing(&rt, folder, "LOCK") else {
+        return false;
+    };
+    says::<F>(rt, folder, case) && stands_so(&rt, folder, "LOCK", &before)
 }
 
 #[test]
-fn openings_fail_without_a_change(rt: HostRuntime) -> Result<(), Fail> {
+fn openings_fail_without_a_change(rt: HostRuntime) {
     for (place, case) in CASES.iter().enumerate() {
-        try_in_folder(rt, "openings", place, case)?;
+        let held = holds_in_folder(rt, "openings", &Tried::FailedOpening(case));
+        assert_case(&rt, held, place);
     }
-    Ok(())
 }
 
-// What a second opening says, and a third after the first has ended.
-fn opened_again(rt: HostRuntime, folder: &str) -> Result<(String, String), Fail> {
-    let first = DiskFileSystem::open(rt, folder)?;
-    let second = fault_of(rt, folder);
-    drop(first);
-    Ok((second?, fault_of(rt, folder)?))
+// What a second opening says.
+fn opened_again<F: Disk + Drop>(rt: HostRuntime, folder: &str) -> Option<String> {
+    let first: Result<F, OpenFault> = F::open_folder(rt, folder, Reading::All);
+    let second = fault_of::<F>(rt, folder);
+    match first {
+        Ok(first) => {
+            drop(first);
+            second
+        }
+        Err(_) => None,
+    }
 }
 
-#[derive(Drop)]
-struct OpenOnce;
-
-impl InFolder for OpenOnce {
-    fn holds(&self, rt: HostRuntime, folder: &str) -> Result<bool, Fail> {
-        let (second, third) = opened_again(rt, folder)?;
-        let wanted = format!(in rt.alloc(); "{folder}: it is open already")?;
-        Ok(second == wanted && third.is_empty())
+/// Whether a folder that is open can't be opened again until it is closed.
+pub(crate) fn is_open_once<F: Disk + Drop>(rt: HostRuntime, folder: &str) -> bool {
+    let Ok(wanted) = format!(in rt.alloc(); "{folder}: it is open already") else {
+        return false;
+    };
+    match (opened_again::<F>(rt, folder), fault_of::<F>(rt, folder)) {
+        (Some(second), Some(third)) => second == wanted && third.is_empty(),
+        _ => false,
     }
 }
 
 #[test]
-fn a_folder_is_open_once(rt: HostRuntime) -> Result<(), Fail> {
-    try_in_folder(rt, "once", 0, &OpenOnce)
+fn a_folder_is_open_once(rt: HostRuntime) {
+    assert_row(&rt, holds_in_folder(rt, "once", &Tried::OpenOnce), "once");
 }
 
-// What the opening of a read-only folder says, or nothing where this user may write to it, as root.
-fn read_only(rt: HostRuntime, folder: &str) -> Result<Option<String>, Fail> {
-    let mut permissions = fs::metadata(&rt, folder)?.permissions();
-    permissions.set_readonly(true);
-    fs::set_permissions(&rt, folder, permissions)?;
-    let tried = format!(in rt.alloc(); "{folder}/tried")?;
-    if fs::write(&rt, tried.as_str(), b"").is_ok() {
-        return Ok(None);
+// Whether a read-only folder can be written to, as by root.
+fn is_writable(rt: &HostRuntime, folder: &str) -> bool {
+    match place_in(rt, folder, "tried") {
+        Some(tried) => fs::write(rt, tried.as_str(), b"").is_ok(),
+        None => false,
     }
-    Ok(Some(fault_of(rt, folder)?))
 }
 
 const DENIED: &str = "its lock cannot be opened: Permission denied";
 
-#[derive(Drop)]
-struct Writable;
-
-impl InFolder for Writable {
-    fn holds(&self, rt: HostRuntime, folder: &str) -> Result<bool, Fail> {
-        let Some(fault) = read_only(rt, folder)? else {
-            return Ok(true);
-        };
-        let wanted = format!(in rt.alloc(); "{folder}: {DENIED}")?;
-        Ok(fault.starts_with(wanted.as_str()))
+/// Whether a folder that this user may not write to can't be opened.
+pub(crate) fn is_denied<F: Disk + Drop>(rt: HostRuntime, folder: &str) -> bool {
+    if !sets_writable(&rt, folder, false) {
+        return false;
+    }
+    if is_writable(&rt, folder) {
+        return true;
+    }
+    let Ok(wanted) = format!(in rt.alloc(); "{folder}: {DENIED}") else {
+        return false;
+    };
+    match fault_of::<F>(rt, folder) {
+        Some(fault) => fault.starts_with(wanted.as_str()),
+        None => false,
     }
 }
 
 #[test]
-fn a_folder_has_to_be_writable(rt: HostRuntime) -> Result<(), Fail> {
-    try_in_folder(rt, "read-only", 0, &Writable)
+fn a_folder_has_to_be_writable(rt: HostRuntime) {
+    assert_row(
+        &rt,
+        holds_in_folder(rt, "read-only", &Tried::ReadOnly),
+        "read-only",
+    );
 }

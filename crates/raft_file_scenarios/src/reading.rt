@@ -5,10 +5,10 @@ ghost use Rattle.std.specs.Option.{IfSome};
 ghost use Rattle.raft_files.specs.FileRecords.{ReadsIn};
 ghost use Rattle.raft_files.specs.Writer.{bytes_at};
 
+use crate::in_memory::{Tried, holds_in_memory};
 use crate::told::assert_row;
 use raft_env::{FileSystem, FsFault};
 use raft_files::{FileRecordReader, LogFileFormat, LogFileReader};
-use raft_memory::MemoryFileSystem;
 use raft_records::{
     Command, EntryIndex, Fault, FileBlockHandle, FileId, KeyValue, LogItem, LogItemBatch,
     LogItemContent, LogQueue, Version,
@@ -70,7 +70,7 @@ enum Step {
 }
 
 /// A file of version 2: its number and alignment, the records after byte 128, and what is read.
-struct Case {
+pub(crate) struct Case {
     name: &'static str,
     seq: u64,
     alignment: u64,
@@ -326,36 +326,38 @@ fn format_of<F: FileSystem>(fs: &mut F, bytes: &[u8]) -> Result<Option<LogFileFo
     reader.parse_format(fs)
 }
 
-// Whether each step comes to what the case says.
-fn is_read<F: FileSystem>(fs: &mut F, alloc: Global, case: &Case) -> Result<bool, Fault> {
+/// Whether each step comes to what the case says.
+pub(crate) fn is_read<F: FileSystem>(fs: &mut F, alloc: Global, case: &Case) -> bool {
     let mut bytes = Vec::new(alloc);
-    lay_out(case, &mut bytes)?;
+    if lay_out(case, &mut bytes).is_err() {
+        return false;
+    }
     let format = LogFileFormat::new(Version::V2, case.alignment);
     if format_of(fs, &bytes) != Ok(Some(format)) {
-        return Ok(false);
+        return false;
     }
     let id = FileId::new(LogQueue::Append, case.seq);
     match reader_of(fs, alloc, id, format, &bytes) {
-        Ok(Some(mut reader)) => Ok(all_hold(fs, alloc, &mut reader, case)),
-        Ok(None) => Ok(false),
-        Err(fault) => Err(fault.with_path(alloc, PATH)),
+        Ok(Some(mut reader)) => all_hold(fs, alloc, &mut reader, case),
+        Ok(None) => false,
+        Err(_) => false,
     }
 }
 
-fn is_read_in_memory(alloc: Global, case: &Case) -> Result<bool, Fault> {
-    let mut fs = MemoryFileSystem::new(alloc);
-    is_read(&mut fs, alloc, case)
-}
-
-fn is_header(alloc: Global, bytes: &[u8]) -> bool {
-    let mut fs = MemoryFileSystem::new(alloc);
-    matches!(format_of(&mut fs, bytes), Ok(Some(_)))
+/// Whether a record alone is no header.
+pub(crate) fn has_no_header<F: FileSystem>(fs: &mut F) -> bool {
+    !matches!(format_of(fs, PUT), Ok(Some(_)))
 }
 
 #[test]
 fn records_are_read_or_refused(rt: HostRuntime) {
     for case in &CASES {
-        assert_row(&rt, is_read_in_memory(rt.alloc(), case), case.name);
+        let held = holds_in_memory(rt.alloc(), &Tried::Records(case));
+        assert_row(&rt, held, case.name);
     }
-    assert!(rt; !is_header(rt.alloc(), PUT));
+    assert_row(
+        &rt,
+        holds_in_memory(rt.alloc(), &Tried::NoHeader),
+        "no header",
+    );
 }

@@ -1,12 +1,12 @@
 //! What the system said of a call that it refused.
 
 use crate::calls::{Step, take_alone};
-use crate::in_folder::{InFolder, try_in_folder};
-use crate::reads::{place_in, write_at};
-use raft_disk::DiskFileSystem;
-use std::alloc::AllocError;
-use std::test::Fail;
-use std::{fs, io};
+use crate::disk::{Disk, Reading};
+use crate::in_folder::{Tried, holds_in_folder};
+use crate::reads::{loses, writes};
+use crate::told::assert_case;
+use raft_disk::OpenFault;
+use raft_env::FileSystem;
 
 /// A name that no file and no folder can have, since it has 256 bytes.
 const LONG: &str = "\
@@ -25,7 +25,7 @@ const TOO_LONG: &str = "File name too long";
 const GONE: &str = "No such file or directory";
 
 /// A call, what can't be done, with what, and the system's text; none where the system wasn't asked.
-struct Case(Step, Option<(&'static str, &'static str, &'static str)>);
+pub(crate) struct Case(Step, Option<(&'static str, &'static str, &'static str)>);
 
 static CASES: [Case; 7] = [
     Case(Step::Create(LONG), Some(("made", LONG, TOO_LONG))),
@@ -37,55 +37,53 @@ static CASES: [Case; 7] = [
     Case(Step::Delete("none"), None),
 ];
 
-fn lose(rt: &HostRuntime, folder: &str) -> io::Result<()> {
-    fs::remove_file(rt, place_in(rt, folder, LOST)?.as_str())
-}
-
 // Whether the folder tells what the system said.
-fn is_told(
+fn has_said(
     rt: &HostRuntime,
     folder: &str,
-    files: &DiskFileSystem,
+    said: Option<&str>,
     wanted: &Option<(&'static str, &'static str, &'static str)>,
-) -> Result<bool, AllocError> {
-    match (files.refusal(), wanted) {
-        (Some(refusal), Some((call, name, text))) => {
-            let said = format!(in rt.alloc(); "{folder}/{name}: it cannot be {call}: {text}")?;
-            Ok(refusal.starts_with(said.as_str()))
+) -> bool {
+    match (said, wanted) {
+        (Some(said), Some((call, name, text))) => {
+            match format!(in rt.alloc(); "{folder}/{name}: it cannot be {call}: {text}") {
+                Ok(wanted) => said.starts_with(wanted.as_str()),
+                Err(_) => false,
+            }
         }
-        (None, None) => Ok(true),
-        _ => Ok(false),
+        (None, None) => true,
+        _ => false,
     }
 }
 
 // Whether the call fails, and that is told.
-fn tells(
-    rt: &HostRuntime,
-    folder: &str,
-    files: &mut DiskFileSystem,
-    case: &Case,
-) -> Result<bool, Fail> {
-    lose(rt, folder)?;
+fn tells<F: Disk + FileSystem>(rt: &HostRuntime, folder: &str, files: &mut F, case: &Case) -> bool {
     let Case(step, wanted) = case;
-    if take_alone(files, step).is_ok() {
-        return Ok(false);
-    }
-    Ok(is_told(rt, folder, files, wanted)?)
+    loses(rt, folder, LOST)
+        && take_alone(files, step).is_err()
+        && has_said(rt, folder, files.last_refusal(), wanted)
 }
 
-impl InFolder for Case {
-    fn holds(&self, rt: HostRuntime, folder: &str) -> Result<bool, Fail> {
-        write_at(&rt, folder, A, b"kept")?;
-        write_at(&rt, folder, LOST, b"kept")?;
-        let mut files = DiskFileSystem::open(rt, folder)?;
-        tells(&rt, folder, &mut files, self)
+/// Whether the call fails in a folder of two files, and the folder tells why.
+pub(crate) fn is_told<F: Disk + FileSystem + Drop>(
+    rt: HostRuntime,
+    folder: &str,
+    case: &Case,
+) -> bool {
+    if !writes(&rt, folder, A, b"kept") || !writes(&rt, folder, LOST, b"kept") {
+        return false;
+    }
+    let opened: Result<F, OpenFault> = F::open_folder(rt, folder, Reading::All);
+    match opened {
+        Ok(mut files) => tells(&rt, folder, &mut files, case),
+        Err(_) => false,
     }
 }
 
 #[test]
-fn refused_calls_are_told(rt: HostRuntime) -> Result<(), Fail> {
+fn refused_calls_are_told(rt: HostRuntime) {
     for (place, case) in CASES.iter().enumerate() {
-        try_in_folder(rt, "refusals", place, case)?;
+        let held = holds_in_folder(rt, "refusals", &Tried::RefusedCall(case));
+        assert_case(&rt, held, place);
     }
-    Ok(())
 }

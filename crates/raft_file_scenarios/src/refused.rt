@@ -1,7 +1,8 @@
 //! Dumps in which a call on the files fails: the rest is given as before.
 
 use crate::failing::Failing;
-use crate::told::assert_right;
+use crate::in_memory::{Tried, holds_in_memory};
+use crate::told::assert_case;
 use raft_dump::{LogItemReader, dump_with_file_system};
 use raft_env::{FileSystem, IoKind};
 use raft_memory::{FsCall, MemoryFileSystem};
@@ -26,7 +27,7 @@ const FAILED: u64 = 0;
 static WITHOUT: [&[u64]; 3] = [&[FAILED, 2, 3, 1], &[1, FAILED, 1], &[1, 2, 3, FAILED]];
 
 /// A sort of calls, and how many of them a dump of three files makes at the least.
-struct Sort(FsCall, u64);
+pub(crate) struct Sort(FsCall, u64);
 
 static SORTS: [Sort; 5] = [
     Sort(FsCall::List, 1),
@@ -131,63 +132,52 @@ fn is_without_one(given: &Option<Vec<u64>>) -> bool {
     }
 }
 
+fn gives_all<F: FileSystem>(alloc: Global, fs: &mut F, cause: Cause) -> bool {
+    match dumped(alloc, fs, cause) {
+        Ok(given) => is_whole(&given),
+        Err(_) => false,
+    }
+}
+
 // Whether the nth call of the sort came, and failed its file alone, and the next dump gives all;
 // none where something else came of it.
-fn fails_at<F: Failing>(
-    alloc: Global,
-    call: FsCall,
-    nth: u64,
-    kind: IoKind,
-) -> Result<Option<bool>, Fault> {
+fn fails_at<F: Failing>(alloc: Global, call: FsCall, nth: u64, kind: IoKind) -> Option<bool> {
     let mut fs = F::fresh(alloc);
-    fill(&mut fs, alloc, FILES)?;
-    fs.fail(call, nth, kind)?;
-    let given = dumped(alloc, &mut fs, Cause::Call(kind))?;
+    if fill(&mut fs, alloc, FILES).is_err() || fs.fail(call, nth, kind).is_err() {
+        return None;
+    }
+    let Ok(given) = dumped(alloc, &mut fs, Cause::Call(kind)) else {
+        return None;
+    };
     let is_failed = fs.refusals() > 0;
     let is_right = if is_failed {
-        is_without_one(&given) && is_whole(&dumped(alloc, &mut fs, Cause::Call(kind))?)
+        is_without_one(&given) && gives_all(alloc, &mut fs, Cause::Call(kind))
     } else {
         is_whole(&given)
     };
-    Ok(if is_right { Some(is_failed) } else { None })
+    if is_right { Some(is_failed) } else { None }
 }
 
-// How many calls of the sort failed, or none where something else came of one.
-fn count_failing<F: Failing>(
-    alloc: Global,
-    call: FsCall,
-    kind: IoKind,
-) -> Result<Option<u64>, Fault> {
+/// Whether each call of the sort fails its file alone, as many as a dump makes at the least.
+pub(crate) fn fails_each_time<F: Failing>(alloc: Global, sort: &Sort, kind: IoKind) -> bool {
     for nth in 1..MANY {
-        match fails_at::<F>(alloc, call, nth, kind)? {
+        match fails_at::<F>(alloc, sort.0, nth, kind) {
             Some(true) => {}
-            Some(false) => return Ok(Some(nth - 1)),
-            None => return Ok(None),
+            Some(false) => return nth > sort.1,
+            None => return false,
         }
     }
-    Ok(None)
-}
-
-// The place of the first sort whose failing calls come to something else.
-fn first_wrong<F: Failing>(alloc: Global) -> Result<Option<usize>, Fault> {
-    for (place, sort) in SORTS.iter().enumerate() {
-        for kind in &KINDS {
-            match count_failing::<F>(alloc, sort.0, *kind)? {
-                Some(count) if count >= sort.1 => {}
-                _ => return Ok(Some(place)),
-            }
-        }
-    }
-    Ok(None)
-}
-
-fn wrong_sort(alloc: Global) -> Result<Option<usize>, Fault> {
-    first_wrong::<MemoryFileSystem>(alloc)
+    false
 }
 
 #[test]
 fn a_failing_call_fails_its_file_alone(rt: HostRuntime) {
-    assert_right(&rt, wrong_sort(rt.alloc()));
+    for (place, sort) in SORTS.iter().enumerate() {
+        for kind in &KINDS {
+            let held = holds_in_memory(rt.alloc(), &Tried::RefusedDump(sort, *kind));
+            assert_case(&rt, held, place);
+        }
+    }
 }
 
 // Whether a dump gives all; with the Nth request for memory refused (`rt try --test --fail-alloc

@@ -1,12 +1,12 @@
 //! Reserved files that an opening passes over: they stand as they did until they are deleted.
 
-use crate::calls::{Step, is_known, take_alone};
-use crate::in_folder::{InFolder, try_in_folder};
-use crate::reads::{bytes_at, place_in, stands_at, write_at};
-use raft_disk::DiskFileSystem;
-use raft_env::{FsFault, IoKind};
-use std::fs;
-use std::test::Fail;
+use crate::calls::{Step, is_answered, take_alone};
+use crate::disk::{Disk, Reading};
+use crate::in_folder::{Tried, holds_in_folder};
+use crate::reads::{has_bytes, makes_folder, stands_at, writes};
+use crate::told::assert_row;
+use raft_disk::OpenFault;
+use raft_env::{FileSystem, IoKind};
 
 const LOG: &str = "0000000000000009.raftlog";
 
@@ -17,57 +17,58 @@ const OTHER: &str = "s/0000000000000002.raftlog.reserved";
 
 const KEPT: &[u8] = b"kept";
 
-fn make(rt: &HostRuntime, folder: &str) -> Result<(), Fail> {
-    fs::create_dir(rt, place_in(rt, folder, "s")?.as_str())?;
-    for name in &[LOG, RESERVED, OTHER] {
-        write_at(rt, folder, name, KEPT)?;
-    }
-    Ok(())
+fn makes(rt: &HostRuntime, folder: &str) -> bool {
+    makes_folder(rt, folder, "s")
+        && writes(rt, folder, LOG, KEPT)
+        && writes(rt, folder, RESERVED, KEPT)
+        && writes(rt, folder, OTHER, KEPT)
 }
 
-// Whether both files stand on the disk.
-fn stand(rt: &HostRuntime, folder: &str) -> Result<bool, Fail> {
-    for name in &[RESERVED, OTHER] {
-        match bytes_at(rt, folder, name)? {
-            Some(bytes) if bytes.as_slice() == KEPT => {}
-            _ => return Ok(false),
-        }
-    }
-    Ok(true)
-}
-
-fn is_out_of_reach(files: &mut DiskFileSystem) -> bool {
+fn is_out_of_reach<F: FileSystem>(files: &mut F) -> bool {
     let made = take_alone(files, &Step::Create(RESERVED));
     let deleted = take_alone(files, &Step::Delete(OTHER));
-    made == Err(FsFault::Io(IoKind::Other))
-        && deleted == Err(FsFault::Io(IoKind::NotFound))
-        && !is_known(files, RESERVED)
-        && is_known(files, LOG)
+    is_answered(made, Some(IoKind::Other))
+        && is_answered(deleted, Some(IoKind::NotFound))
+        && !files.is_file(RESERVED)
+        && files.is_file(LOG)
 }
 
-// Whether they are passed over by the opening, gone after the deletion, and then a file is made in
-// their place.
-fn pass_over(rt: &HostRuntime, folder: &str, files: &mut DiskFileSystem) -> Result<bool, Fail> {
-    let first = is_out_of_reach(files) && stand(rt, folder)?;
-    files.delete_reserved()?;
-    let second = !stands_at(rt, folder, RESERVED)? && !stands_at(rt, folder, OTHER)?;
-    let third = take_alone(files, &Step::Create(RESERVED)).is_ok();
-    files.delete_reserved()?;
-    Ok(first && second && third && stands_at(rt, folder, RESERVED)?)
+// Whether reserved files are passed over by the opening.
+fn are_unread<F: FileSystem>(rt: &HostRuntime, folder: &str, files: &mut F) -> bool {
+    is_out_of_reach(files)
+        && has_bytes(rt, folder, RESERVED, KEPT)
+        && has_bytes(rt, folder, OTHER, KEPT)
 }
 
-#[derive(Drop)]
-struct Reserved;
+// Whether they are gone after the deletion, and a file that is then made in their place stays.
+fn are_deleted<F: Disk + FileSystem>(rt: &HostRuntime, folder: &str, files: &mut F) -> bool {
+    files.delete_unread().is_ok()
+        && stands_at(rt, folder, RESERVED) == Some(false)
+        && stands_at(rt, folder, OTHER) == Some(false)
+        && take_alone(files, &Step::Create(RESERVED)).is_ok()
+        && files.delete_unread().is_ok()
+        && stands_at(rt, folder, RESERVED) == Some(true)
+}
 
-impl InFolder for Reserved {
-    fn holds(&self, rt: HostRuntime, folder: &str) -> Result<bool, Fail> {
-        make(&rt, folder)?;
-        let mut files = DiskFileSystem::open_without_reserved(rt, folder, Some("s"))?;
-        pass_over(&rt, folder, &mut files)
+/// Whether an opening without them passes over reserved files.
+pub(crate) fn are_passed_over<F: Disk + FileSystem + Drop>(rt: HostRuntime, folder: &str) -> bool {
+    if !makes(&rt, folder) {
+        return false;
+    }
+    let opened: Result<F, OpenFault> = F::open_folder(rt, folder, Reading::NoReserved("s"));
+    match opened {
+        Ok(mut files) => {
+            are_unread(&rt, folder, &mut files) && are_deleted(&rt, folder, &mut files)
+        }
+        Err(_) => false,
     }
 }
 
 #[test]
-fn reserved_files_are_passed_over(rt: HostRuntime) -> Result<(), Fail> {
-    try_in_folder(rt, "reserved", 0, &Reserved)
+fn reserved_files_are_passed_over(rt: HostRuntime) {
+    assert_row(
+        &rt,
+        holds_in_folder(rt, "reserved", &Tried::Reserved),
+        "reserved",
+    );
 }

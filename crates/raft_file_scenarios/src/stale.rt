@@ -1,12 +1,15 @@
 //! A file that is used again, whose first bytes were written over: what stands behind its records is told from damage.
 
-use crate::told::assert_rows;
+use crate::in_memory::{Tried, holds_in_memory};
+use crate::told::assert_case;
 use raft_config::RecoveryMode;
+use raft_env::FileSystem;
 use raft_inspect::{Lines, Outlook, QueueFiles, add_queue, inspect};
-use raft_memory::MemoryFileSystem;
 use raft_records::{Fault, LogQueue};
-use raft_rows::Row;
+use raft_rows::store_in;
 use std::alloc::Global;
+
+const PATH: &str = "log/0000000000000007.raftlog";
 
 /// Headers of versions 1 and 2.
 const V1: &[u8] =
@@ -33,7 +36,7 @@ const TORN: &[u8] = b"\x61\x01\x78\x63\x81\x67\x02";
 
 /// The parts of file 7, and the end of the line that tells it: what stands behind its records, and what an opening in each
 /// mode does with it; then how many files the default mode cuts, and how many bytes of an earlier file.
-struct Case {
+pub(crate) struct Case {
     parts: &'static [&'static [u8]],
     line: &'static str,
     cut: u64,
@@ -107,43 +110,38 @@ static CASES: [Case; 10] = [
     },
 ];
 
-fn found_in(alloc: Global, case: &Case) -> Result<QueueFiles, Fault> {
-    let mut bytes = Vec::new(alloc);
-    for part in case.parts {
-        bytes.extend_from_slice(part)?;
+fn found_in<F: FileSystem>(fs: &mut F, alloc: Global, case: &Case) -> Result<QueueFiles, Fault> {
+    if let Err(fault) = store_in(fs, "log", PATH, case.parts) {
+        return Err(fault.with_path(alloc, PATH));
     }
-    let path = String::from_str(alloc, "log/0000000000000007.raftlog")?;
-    let folder = String::from_str(alloc, "log")?;
-    let mut image = MemoryFileSystem::settled(
-        alloc,
-        vec![in alloc; (path, bytes)]?,
-        vec![in alloc; folder]?,
-    )?;
-    inspect(alloc, &mut image, &["log"], LogQueue::Append)
+    inspect(alloc, fs, &["log"], LogQueue::Append)
 }
 
-fn is_told(alloc: Global, case: &Case) -> Result<bool, Fault> {
-    let found = found_in(alloc, case)?;
+fn has_line(alloc: Global, found: &QueueFiles, case: &Case) -> bool {
     let mut lines = Lines::new(alloc, false, false);
-    add_queue(alloc, &found, &mut lines)?;
-    let mut outlook = Outlook::new();
-    outlook.add_queue(alloc, &found, RecoveryMode::TolerateTailCorruption)?;
-    Ok(
-        lines.as_bytes().ends_with(case.line.as_bytes())
-            && outlook.files == case.cut
-            && outlook.stale == case.stale,
-    )
+    add_queue(alloc, found, &mut lines).is_ok() && lines.as_bytes().ends_with(case.line.as_bytes())
 }
 
-impl Row for Case {
-    type State = ();
+fn has_outlook(alloc: Global, found: &QueueFiles, case: &Case) -> bool {
+    let mut outlook = Outlook::new();
+    outlook
+        .add_queue(alloc, found, RecoveryMode::TolerateTailCorruption)
+        .is_ok()
+        && outlook.files == case.cut
+        && outlook.stale == case.stale
+}
 
-    fn holds(&self, alloc: Global, _: &mut ()) -> Result<bool, Fault> {
-        is_told(alloc, self)
+/// Whether the line of the file and what an opening does come to what the case says.
+pub(crate) fn is_told<F: FileSystem>(fs: &mut F, alloc: Global, case: &Case) -> bool {
+    match found_in(fs, alloc, case) {
+        Ok(found) => has_line(alloc, &found, case) && has_outlook(alloc, &found, case),
+        Err(_) => false,
     }
 }
 
 #[test]
 fn stale_records_are_told_from_damage(rt: HostRuntime) {
-    assert_rows(&rt, rt.alloc(), &mut (), &CASES);
+    for (place, case) in CASES.iter().enumerate() {
+        assert_case(&rt, holds_in_memory(rt.alloc(), &Tried::Stale(case)), place);
+    }
 }

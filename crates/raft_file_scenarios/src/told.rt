@@ -21,11 +21,11 @@ pub(crate) fn assert_right<R: Abort>(rt: &R, wrong: Result<Option<usize>, Fault>
 }
 
 /// What has this name comes to what it says.
-pub(crate) fn assert_row<R: Abort>(rt: &R, held: Result<bool, Fault>, name: &str) {
-    assert!(rt; matches!(held, Ok(true)), "{name}: {held:?}");
+pub(crate) fn assert_row<R: Abort>(rt: &R, held: bool, name: &str) {
+    assert!(rt; held, "{name}");
 }
 
 /// The case at this place comes to what it says.
-pub(crate) fn assert_case<R: Abort>(rt: &R, held: Result<bool, Fault>, place: usize) {
-    assert!(rt; matches!(held, Ok(true)), "case {place}: {held:?}");
+pub(crate) fn assert_case<R: Abort>(rt: &R, held: bool, place: usize) {
+    assert!(rt; held, "case {place}");
 }

@@ -1,6 +1,6 @@
 use denote.Param.Send.{sendable}
 use Rattle.raft_memory.proofs.Sent.{memory_send, memory_sync}
-use Rattle.raft_file_scenarios.proofs.building.holds_in_memory.Goals as goal
+use Rattle.raft_file_scenarios.proofs.in_memory.holds_in_memory.Goals as goal
 
 pub holds-requires-send-F : goal.holds-requires-send-F
 holds-requires-send-F c κs = search (sendable, memory_send) depth 20

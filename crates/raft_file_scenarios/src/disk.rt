@@ -1,0 +1,64 @@
+//! Files in a folder of the operating system, for what is written over any files.
+
+use raft_disk::{DiskCounts, DiskFileSystem, OpenFault};
+
+/// What an opening reads.
+#[derive(Clone, Copy)]
+pub(crate) enum Reading {
+    All,
+    /// It fails if files are missing or too many.
+    Whole,
+    /// The folder and this second one.
+    Two(&'static str),
+    /// The same, without reserved files.
+    NoReserved(&'static str),
+}
+
+/// A folder of the operating system. That it is a file system is a bound of its own at each use.
+pub(crate) trait Disk {
+    fn open_folder(rt: HostRuntime, folder: &str, reading: Reading) -> Result<Self, OpenFault>;
+
+    /// Accepts the files that are there.
+    fn forget(rt: HostRuntime, folder: &str) -> Result<(), OpenFault>;
+
+    /// Deletes the reserved files that the opening passed over.
+    fn delete_unread(&self) -> Result<(), OpenFault>;
+
+    fn call_counts(&self) -> DiskCounts;
+
+    /// What the system said of the last call that it refused.
+    fn last_refusal(&self) -> Option<&str>;
+}
+
+impl Disk for DiskFileSystem {
+    fn open_folder(
+        rt: HostRuntime,
+        folder: &str,
+        reading: Reading,
+    ) -> Result<DiskFileSystem, OpenFault> {
+        match reading {
+            Reading::All => DiskFileSystem::open(rt, folder),
+            Reading::Whole => DiskFileSystem::open_whole(rt, folder, None),
+            Reading::Two(second) => DiskFileSystem::open_with(rt, folder, Some(second)),
+            Reading::NoReserved(second) => {
+                DiskFileSystem::open_without_reserved(rt, folder, Some(second))
+            }
+        }
+    }
+
+    fn forget(rt: HostRuntime, folder: &str) -> Result<(), OpenFault> {
+        DiskFileSystem::forget_spans(rt, folder)
+    }
+
+    fn call_counts(&self) -> DiskCounts {
+        self.counts()
+    }
+
+    fn delete_unread(&self) -> Result<(), OpenFault> {
+        self.delete_reserved()
+    }
+
+    fn last_refusal(&self) -> Option<&str> {
+        self.refusal()
+    }
+}
