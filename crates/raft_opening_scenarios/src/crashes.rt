@@ -39,13 +39,6 @@ struct Reached {
     synced: u64,
 }
 
-fn open<F: FileSystem + Drop>(alloc: Global, files: F) -> Result<Engine<F>, Fault> {
-    match Engine::open_in_order(alloc, Config::fresh(alloc), files) {
-        Ok(engine) => Ok(engine),
-        Err(refused) => Err(refused.fault),
-    }
-}
-
 fn key_of(alloc: Global, number: u64) -> Result<Vec<u8>, AllocError> {
     Ok(format!(in alloc; "key {number}")?.into_bytes())
 }
@@ -64,26 +57,28 @@ fn put<F: FileSystem>(
     Ok(())
 }
 
-fn has<F: FileSystem>(alloc: Global, engine: &Engine<F>, number: u64) -> Result<bool, Fault> {
-    let key = key_of(alloc, number)?;
-    match engine.get(GROUP, &key)? {
-        Some(value) => Ok(value == key),
-        None => Ok(false),
+fn has<F: FileSystem>(alloc: Global, engine: &Engine<F>, number: u64) -> bool {
+    match key_of(alloc, number) {
+        Ok(key) => match engine.get(GROUP, &key) {
+            Ok(Some(value)) => value == key,
+            _ => false,
+        },
+        Err(_fault) => false,
     }
 }
 
-// How many keys stand from 0 on, or nothing where one stands after a gap.
-fn standing<F: FileSystem>(alloc: Global, engine: &Engine<F>) -> Result<Option<u64>, Fault> {
+// How many keys there are from 0 on, or nothing if there is one after a gap.
+fn standing<F: FileSystem>(alloc: Global, engine: &Engine<F>) -> Option<u64> {
     let mut standing = 0;
     for number in 0..PUTS.len() as u64 {
-        if has(alloc, engine, number)? {
+        if has(alloc, engine, number) {
             if standing != number {
-                return Ok(None);
+                return None;
             }
             standing = number + 1;
         }
     }
-    Ok(Some(standing))
+    Some(standing)
 }
 
 fn torn(
@@ -109,11 +104,11 @@ fn torn(
     Ok(bytes)
 }
 
-fn log_bytes(rt: &HostRuntime, folder: &str) -> Result<Vec<u8>, Fail> {
-    let log = format!(in rt.alloc(); "{folder}/{LOG}")?;
-    let mut bytes = fs::read(rt, log.as_str())?;
+fn log_bytes(rt: &HostRuntime, folder: &str) -> Option<Vec<u8>> {
+    let log = format!(in rt.alloc(); "{folder}/{LOG}").ok()?;
+    let mut bytes = fs::read(rt, log.as_str()).ok()?;
     bytes.truncate(LOG_LEN);
-    Ok(bytes)
+    Some(bytes)
 }
 
 /// What the log's bytes were at the last sync, and are after a put.
@@ -124,39 +119,67 @@ struct Moment {
     reached: Reached,
 }
 
-/// What an engine has seen: the moments after its puts, and how many keys stand then.
+/// What an engine has seen: the moments after its puts, and how many keys there are then.
 #[derive(Drop)]
 struct Seen {
     moments: Vec<Moment>,
+    last: Vec<u8>,
+    reached: Reached,
     standing: Option<u64>,
 }
 
-// Puts keys, synced where that is asked, into a log that stands in this folder.
+impl Seen {
+    fn new(alloc: Global) -> Seen {
+        Seen {
+            moments: Vec::new(alloc),
+            last: Vec::new(alloc),
+            reached: Reached { put: 0, synced: 0 },
+            standing: None,
+        }
+    }
+
+    // Notes a put after which the log has these bytes.
+    fn note(&mut self, alloc: Global, now: Vec<u8>, sync: bool) -> Result<(), AllocError> {
+        self.reached.put = self.reached.put.saturating_add(1);
+        if sync {
+            self.reached.synced = self.reached.put;
+            self.last = now.to_vec(alloc)?;
+        }
+        let synced = self.last.to_vec(alloc)?;
+        let reached = self.reached;
+        self.moments.push(Moment {
+            synced,
+            now,
+            reached,
+        })?;
+        Ok(())
+    }
+
+    // Notes what the log has: whether that could be read.
+    fn look(&mut self, rt: HostRuntime, folder: &str, sync: bool) -> bool {
+        match log_bytes(&rt, folder) {
+            Some(now) => self.note(rt.alloc(), now, sync).is_ok(),
+            None => false,
+        }
+    }
+}
+
+// Puts keys, synced where that is asked, into a log in this folder: whether each is put.
 fn see<F: FileSystem>(
     rt: HostRuntime,
     folder: &str,
     engine: &mut Engine<F>,
     puts: &[bool],
-) -> Result<Seen, Fail> {
-    let mut moments = Vec::new(rt.alloc());
-    let mut reached = Reached { put: 0, synced: 0 };
-    let mut last = log_bytes(&rt, folder)?;
+    seen: &mut Seen,
+) -> bool {
     for sync in puts {
-        put(rt.alloc(), engine, reached.put, *sync)?;
-        reached.put = reached.put.saturating_add(1);
-        let now = log_bytes(&rt, folder)?;
-        if *sync {
-            reached.synced = reached.put;
-            last = now.to_vec(rt.alloc())?;
+        let is_put = put(rt.alloc(), engine, seen.reached.put, *sync).is_ok();
+        if !is_put || !seen.look(rt, folder, *sync) {
+            return false;
         }
-        moments.push(Moment {
-            synced: last.to_vec(rt.alloc())?,
-            now,
-            reached,
-        })?;
     }
-    let standing = standing(rt.alloc(), engine)?;
-    Ok(Seen { moments, standing })
+    seen.standing = standing(rt.alloc(), engine);
+    true
 }
 
 fn seen_over<F: FileSystem + Drop>(
@@ -164,87 +187,129 @@ fn seen_over<F: FileSystem + Drop>(
     folder: &str,
     files: F,
     puts: &[bool],
-) -> Result<Seen, Fail> {
-    let mut engine = open(rt.alloc(), files)?;
-    let seen = see(rt, folder, &mut engine, puts);
-    engine.give_up();
-    seen
+    seen: &mut Seen,
+) -> bool {
+    match Engine::open_in_order(rt.alloc(), Config::fresh(rt.alloc()), files) {
+        Ok(mut engine) => {
+            let is_seen = see(rt, folder, &mut engine, puts, seen);
+            engine.give_up();
+            is_seen
+        }
+        Err(_refused) => false,
+    }
 }
 
 // The one call at a real folder, which is dear to prove.
-fn seen_in(rt: HostRuntime, folder: &str, puts: &[bool]) -> Result<Seen, Fail> {
-    seen_over(rt, folder, DiskFileSystem::open(rt, folder)?, puts)
+fn seen_in(rt: HostRuntime, folder: &str, puts: &[bool], seen: &mut Seen) -> bool {
+    match DiskFileSystem::open(rt, folder) {
+        Ok(files) => seen_over(rt, folder, files, puts, seen),
+        Err(_fault) => false,
+    }
 }
 
-// What an engine finds in a folder with this log, where a second one finds the same.
-fn found(rt: HostRuntime, folder: &str, bytes: &[u8]) -> Result<Option<u64>, Fail> {
-    let left = format!(in rt.alloc(); "{folder}/left")?;
-    let log = format!(in rt.alloc(); "{left}/{LOG}")?;
-    fs::create_dir(&rt, left.as_str())?;
-    fs::write(&rt, log.as_str(), bytes)?;
-    let first = seen_in(rt, left.as_str(), &[])?;
-    let second = seen_in(rt, left.as_str(), &[])?;
-    fs::remove_dir_all(&rt, left.as_str())?;
-    Ok(if first.standing == second.standing {
-        first.standing
+fn standing_in(rt: HostRuntime, folder: &str) -> Option<u64> {
+    let mut seen = Seen::new(rt.alloc());
+    if seen_in(rt, folder, &[], &mut seen) {
+        seen.standing
     } else {
         None
-    })
+    }
 }
 
-// Tries each of the crashes, and answers how many were wrong.
-fn wrong_crashes(
-    rt: HostRuntime,
-    folder: &str,
-    synced: &[u8],
-    now: &[u8],
-    reached: Reached,
-) -> Result<u64, Fail> {
+// How many keys an engine finds in a folder, if a second one finds as many.
+fn standing_twice(rt: HostRuntime, folder: &str) -> Option<u64> {
+    let first = standing_in(rt, folder)?;
+    let second = standing_in(rt, folder)?;
+    if first == second { Some(first) } else { None }
+}
+
+fn store_log(rt: HostRuntime, left: &str, bytes: &[u8]) -> Option<()> {
+    let log = format!(in rt.alloc(); "{left}/{LOG}").ok()?;
+    fs::create_dir(&rt, left).ok()?;
+    fs::write(&rt, log.as_str(), bytes).ok()
+}
+
+// How many keys engines find in a folder with this log.
+fn found(rt: HostRuntime, left: &str, bytes: &[u8]) -> Option<u64> {
+    store_log(rt, left, bytes)?;
+    let found = standing_twice(rt, left);
+    fs::remove_dir_all(&rt, left).ok()?;
+    found
+}
+
+fn is_right(reached: Reached, found: Option<u64>) -> bool {
+    match found {
+        Some(standing) => reached.synced <= standing && standing <= reached.put,
+        None => false,
+    }
+}
+
+// Tries each of the crashes: how many were wrong.
+fn wrong_crashes(rt: HostRuntime, left: &str, synced: &[u8], moment: &Moment) -> Option<u64> {
     let mut wrong = 0;
     for (kept, fill) in &TORN {
-        let bytes = torn(rt.alloc(), synced, now, *kept, *fill)?;
-        let is_right = match found(rt, folder, &bytes)? {
-            Some(standing) => reached.synced <= standing && standing <= reached.put,
-            None => false,
-        };
-        if !is_right {
+        let bytes = torn(rt.alloc(), synced, &moment.now, *kept, *fill).ok()?;
+        if !is_right(moment.reached, found(rt, left, &bytes)) {
             wrong = u64::saturating_add(wrong, 1);
         }
     }
-    Ok(wrong)
+    Some(wrong)
 }
 
-/// Crashes that were wrong, and those that are where the syncs don't count.
+/// Crashes that were wrong, and those that are if the syncs don't count.
 #[derive(Clone, Copy)]
 struct Wrong {
     counted: u64,
     uncounted: u64,
 }
 
-fn crashes_in(rt: HostRuntime, folder: &str) -> Result<Wrong, Fail> {
-    let live = format!(in rt.alloc(); "{folder}/live")?;
-    let seen = seen_in(rt, live.as_str(), &PUTS)?;
-    let mut counted = 0u64;
-    for moment in &seen.moments {
-        let wrong = wrong_crashes(rt, folder, &moment.synced, &moment.now, moment.reached)?;
-        counted = counted.saturating_add(wrong);
-    }
-    let uncounted = match seen.moments.last() {
-        Some(last) => wrong_crashes(rt, folder, &[], &last.now, last.reached)?,
-        None => 0,
+fn wrong_of(rt: HostRuntime, left: &str, moments: &[Moment]) -> Option<Wrong> {
+    let mut wrong = Wrong {
+        counted: 0,
+        uncounted: 0,
     };
-    Ok(Wrong { counted, uncounted })
+    for moment in moments {
+        let counted = wrong_crashes(rt, left, &moment.synced, moment)?;
+        wrong.counted = wrong.counted.saturating_add(counted);
+    }
+    wrong.uncounted = wrong_crashes(rt, left, &[], moments.last()?)?;
+    Some(wrong)
+}
+
+fn wrong_at(rt: HostRuntime, live: &str, left: &str) -> Option<Wrong> {
+    let mut seen = Seen::new(rt.alloc());
+    if seen_in(rt, live, &PUTS, &mut seen) {
+        wrong_of(rt, left, &seen.moments)
+    } else {
+        None
+    }
+}
+
+fn crashes_in(rt: HostRuntime, folder: &str) -> Option<Wrong> {
+    let live = format!(in rt.alloc(); "{folder}/live").ok()?;
+    let left = format!(in rt.alloc(); "{folder}/left").ok()?;
+    wrong_at(rt, live.as_str(), left.as_str())
+}
+
+fn tell_wrong(wrong: Option<Wrong>) -> Result<(), Fail> {
+    match wrong {
+        Some(
+            Wrong {
+                counted: 0,
+                uncounted: 5,
+            },
+        ) => Ok(()),
+        Some(Wrong { counted, uncounted }) => Err(Fail::new(format_args!(
+            "{counted} wrong, {uncounted} without syncs"
+        ))),
+        None => Err(Fail::new("a call failed")),
+    }
 }
 
 #[test]
 fn synced_keys_are_found_after_crashes(rt: HostRuntime) -> Result<(), Fail> {
     let folder = temp_folder(&rt, "crashes")?;
     let wrong = crashes_in(rt, folder.as_str());
-    let removed = fs::remove_dir_all(&rt, folder.as_str());
-    let Wrong { counted, uncounted } = wrong?;
-    assert!(rt;
-        counted == 0 && uncounted == 5,
-        "{counted} wrong, {uncounted} without syncs"
-    );
-    Ok(removed?)
+    fs::remove_dir_all(&rt, folder.as_str())?;
+    tell_wrong(wrong)
 }

@@ -3,9 +3,11 @@
 #![tactic(auto)]
 
 #[cfg(test)]
-mod chunks;
+mod broken;
 #[cfg(test)]
 mod crashes;
+#[cfg(test)]
+mod folders;
 #[cfg(test)]
 mod no_files;
 #[cfg(test)]

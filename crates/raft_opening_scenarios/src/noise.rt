@@ -2,14 +2,12 @@
 
 ghost use Rattle.std.specs.Prelude.{◌<◌};
 
-use crate::openings::{ABSOLUTE, ANY, MODES, TAIL, break_byte, tell};
+use crate::openings::{ABSOLUTE, ANY, MODES, TAIL, break_byte};
 use crate::stored::{ALL, HEADER_2, THREE, make};
 use raft_env::{FileSystem, FsFault};
-use raft_memory::MemoryFileSystem;
 use raft_rows::store;
 use raft_test_rows::{EMPTY, Faulty, Held, RecoveryMode, State};
 use std::alloc::{AllocError, Global};
-use std::test::Fail;
 
 /// What is found without a byte's file.
 const WITHOUT: [State; 3] = [
@@ -92,7 +90,11 @@ fn is_broken_so<F: Faulty>(
     is_changed && held.open(alloc, mode) && held.has_come_to(&wanted)
 }
 
-fn wrong_byte<F: Faulty>(alloc: Global, held: &mut Held<F>) -> Option<(&'static str, usize)> {
+/// The places of which one breaks another file than it should, and that place.
+pub(crate) fn wrong_byte<F: Faulty>(
+    alloc: Global,
+    held: &mut Held<F>,
+) -> Option<(&'static str, usize)> {
     for row in &PLACES {
         for at in row.first..row.end {
             for file in 0..WITHOUT.len() {
@@ -105,19 +107,6 @@ fn wrong_byte<F: Faulty>(alloc: Global, held: &mut Held<F>) -> Option<(&'static 
         }
     }
     None
-}
-
-// The places of which one breaks another file than it should, and that place.
-fn wrong_place<F: Faulty>(alloc: Global, files: F) -> Option<(&'static str, usize)> {
-    let mut held = Held::Files(files);
-    let wrong = wrong_byte(alloc, &mut held);
-    held.into_files();
-    wrong
-}
-
-#[test]
-fn each_broken_byte_is_met(rt: HostRuntime) -> Result<(), Fail> {
-    tell(wrong_place(rt.alloc(), MemoryFileSystem::new(rt.alloc())))
 }
 
 /// Files of bytes that no engine wrote, and what openings of them find.
@@ -199,7 +188,7 @@ fn store_noise<F: FileSystem>(
     Ok(())
 }
 
-// Whether an opening comes to what is wanted, and where it holds a state the next one after a close.
+// Whether an opening comes to what is wanted, and, if it finds a state, the next one after a close.
 fn is_found<F: Faulty>(
     alloc: Global,
     held: &mut Held<F>,
@@ -221,7 +210,11 @@ fn is_found<F: Faulty>(
     is_opened
 }
 
-fn wrong_length<F: Faulty>(alloc: Global, held: &mut Held<F>) -> Option<(&'static str, usize)> {
+/// The files of which an opening finds something else, and how long their bytes are.
+pub(crate) fn wrong_length<F: Faulty>(
+    alloc: Global,
+    held: &mut Held<F>,
+) -> Option<(&'static str, usize)> {
     for row in &NOISE {
         for len in 1..LENGTHS {
             for (mode, wanted) in row.found {
@@ -232,17 +225,4 @@ fn wrong_length<F: Faulty>(alloc: Global, held: &mut Held<F>) -> Option<(&'stati
         }
     }
     None
-}
-
-// The files of which an opening finds something else, and how long their bytes are.
-fn wrong_noise<F: Faulty>(alloc: Global, files: F) -> Option<(&'static str, usize)> {
-    let mut held = Held::Files(files);
-    let wrong = wrong_length(alloc, &mut held);
-    held.into_files();
-    wrong
-}
-
-#[test]
-fn bytes_that_no_engine_wrote_are_cut_or_refused(rt: HostRuntime) -> Result<(), Fail> {
-    tell(wrong_noise(rt.alloc(), MemoryFileSystem::new(rt.alloc())))
 }

@@ -1,10 +1,7 @@
-//! An opening of files in memory, in order or by workers, and what the files are then.
+//! Openings by workers of files in memory, and what the files are then.
 
 use raft_env::{FileSystem, FsFault, Permission};
-use raft_records::Fault;
-use raft_test_rows::{
-    Config, Engine, Image, Left, Plan, RecoveryMode, Refused, ops_of, run, settings,
-};
+use raft_test_rows::{Config, Engine, Faulty, Held, Plan, RecoveryMode, ops_of, run, settings_in};
 use std::alloc::{AllocError, Global};
 use std::test::Fail;
 use std::thread::Threads;
@@ -17,9 +14,6 @@ pub(crate) const ANY: RecoveryMode = RecoveryMode::TolerateAnyCorruption;
 
 pub(crate) const MODES: [RecoveryMode; 3] = [ABSOLUTE, TAIL, ANY];
 
-/// So many workers read the files.
-pub(crate) const WORKERS: [usize; 4] = [1, 2, 3, 8];
-
 /// The row and the place in it at which something is wrong, if there is one.
 pub(crate) fn tell(wrong: Option<(&'static str, usize)>) -> Result<(), Fail> {
     match wrong {
@@ -28,73 +22,41 @@ pub(crate) fn tell(wrong: Option<(&'static str, usize)>) -> Result<(), Fail> {
     }
 }
 
-/// What a crash may leave of each log file.
-pub(crate) static LEFTS: [Left; 3] = [Left::All, Left::Synced, Left::Torn(7, 255)];
-
-/// What an opening finds, or why it fails, and the files after it.
-#[derive(Drop)]
-pub(crate) struct Opened<F> {
-    pub(crate) answer: Result<Image, Fault>,
-    pub(crate) files: F,
-}
-
-/// The log's settings, with this mode and so many threads.
-pub(crate) fn settings_of(
-    alloc: Global,
-    mode: RecoveryMode,
-    workers: usize,
-) -> Result<Config, AllocError> {
-    let mut config = settings(alloc)?;
-    config.recovery_mode = mode;
+// The log's settings, with this mode and so many threads.
+fn settings_of(alloc: Global, mode: RecoveryMode, workers: usize) -> Result<Config, AllocError> {
+    let mut config = settings_in(alloc, mode)?;
     config.recovery_threads = workers;
     Ok(config)
 }
 
-fn outcome_of<F: FileSystem + Drop>(opening: Result<Engine<F>, Refused<F>>) -> Opened<F> {
-    match opening {
-        Ok(mut engine) => Opened {
-            answer: engine.image(),
-            files: engine.give_up(),
-        },
-        Err(refused) => Opened {
-            answer: Err(refused.fault),
-            files: refused.file_system,
-        },
+fn open_with<R: Threads + Sync, F: Faulty>(
+    rt: &R,
+    alloc: Global,
+    held: &mut Held<F>,
+    config: Config,
+) {
+    if let Some(files) = held.take() {
+        match Engine::open_with_file_system(rt, alloc, config, files) {
+            Ok(engine) => held.hold(Held::Engine(engine)),
+            Err(refused) => held.hold(Held::Refused(refused)),
+        }
     }
 }
 
-pub(crate) fn open_in_order<F: FileSystem + Drop>(
-    alloc: Global,
-    mode: RecoveryMode,
-    files: F,
-) -> Result<Opened<F>, AllocError> {
-    let config = settings_of(alloc, mode, 1)?;
-    Ok(outcome_of(Engine::open_in_order(alloc, config, files)))
-}
-
-pub(crate) fn open_by_workers<R: Threads + Sync, F: FileSystem + Drop>(
+/// Opens the files by workers: whether there was memory for the settings.
+pub(crate) fn open_by_workers<R: Threads + Sync, F: Faulty>(
     rt: &R,
     alloc: Global,
+    held: &mut Held<F>,
     mode: RecoveryMode,
     workers: usize,
-    files: F,
-) -> Result<Opened<F>, AllocError> {
-    let config = settings_of(alloc, mode, workers)?;
-    Ok(outcome_of(Engine::open_with_file_system(rt, alloc, config, files)))
-}
-
-/// Why an opening by workers fails, if it does, and the files after it.
-pub(crate) fn refusal_by_workers<R: Threads + Sync, F: FileSystem + Drop>(
-    rt: &R,
-    alloc: Global,
-    mode: RecoveryMode,
-    workers: usize,
-    files: F,
-) -> Result<(Option<Fault>, F), AllocError> {
-    let config = settings_of(alloc, mode, workers)?;
-    match Engine::open_with_file_system(rt, alloc, config, files) {
-        Ok(engine) => Ok((None, engine.give_up())),
-        Err(refused) => Ok((Some(refused.fault), refused.file_system)),
+) -> bool {
+    match settings_of(alloc, mode, workers) {
+        Ok(config) => {
+            open_with(rt, alloc, held, config);
+            true
+        }
+        Err(_fault) => false,
     }
 }
 
@@ -113,8 +75,19 @@ pub(crate) fn bytes_of<F: FileSystem>(
     Ok(bytes)
 }
 
-/// Whether both have the same files in the log's folder, byte for byte.
-pub(crate) fn are_same_files<F: FileSystem>(
+fn is_same_file<F: FileSystem>(
+    alloc: Global,
+    one: &mut F,
+    other: &mut F,
+    name: &str,
+) -> Result<bool, FsFault> {
+    let path = format!(in alloc; "raft/{name}")?;
+    let bytes = bytes_of(alloc, one, path.as_str())?;
+    Ok(bytes == bytes_of(alloc, other, path.as_str())?)
+}
+
+// Whether both have the same files in the log's folder, byte for byte.
+fn are_same_files<F: FileSystem>(
     alloc: Global,
     one: &mut F,
     other: &mut F,
@@ -122,11 +95,41 @@ pub(crate) fn are_same_files<F: FileSystem>(
     let names = one.list("raft")?;
     let mut are_same = names == other.list("raft")?;
     for name in &names {
-        let path = format!(in alloc; "raft/{}", name.as_str())?;
-        let bytes = bytes_of(alloc, one, path.as_str())?;
-        are_same = are_same && bytes == bytes_of(alloc, other, path.as_str())?;
+        are_same = are_same && is_same_file(alloc, one, other, name.as_str())?;
     }
     Ok(are_same)
+}
+
+/// Whether both have the same files, byte for byte. Engines give theirs up.
+pub(crate) fn have_same_files<F: Faulty>(
+    alloc: Global,
+    one: &mut Held<F>,
+    other: &mut Held<F>,
+) -> bool {
+    one.give_up();
+    other.give_up();
+    match one.files() {
+        Some(one) => match other.files() {
+            Some(other) => matches!(are_same_files(alloc, one, other), Ok(true)),
+            None => false,
+        },
+        None => false,
+    }
+}
+
+/// Whether both openings found the same, or failed with the same fault.
+pub(crate) fn have_same_answers<F: Faulty>(one: &mut Held<F>, other: &mut Held<F>) -> bool {
+    match one {
+        Held::Engine(one) => match other {
+            Held::Engine(other) => one.image() == other.image(),
+            _ => false,
+        },
+        Held::Refused(one) => match other {
+            Held::Refused(other) => one.fault == other.fault,
+            _ => false,
+        },
+        _ => false,
+    }
 }
 
 /// Writes a byte at this place of a file that none of the tests' files has there.
@@ -140,20 +143,20 @@ pub(crate) fn break_byte<F: FileSystem>(
     files.write(&mut writer, at, &[0xa5])
 }
 
-/// The files once the operations were done by an engine that was given up then.
-pub(crate) fn written<F: FileSystem + Drop>(
-    alloc: Global,
-    plans: &[Plan],
-    files: F,
-) -> Result<F, Fail> {
-    let ops = ops_of(alloc, plans)?;
-    match Engine::open_in_order(alloc, settings(alloc)?, files) {
-        Ok(mut engine) => {
-            let ran = run(alloc, &mut engine, &ops);
-            let files = engine.give_up();
-            ran?;
-            Ok(files)
-        }
-        Err(refused) => Ok(refused.file_system),
+fn are_run<F: FileSystem>(alloc: Global, engine: &mut Engine<F>, plans: &[Plan]) -> bool {
+    match ops_of(alloc, plans) {
+        Ok(ops) => run(alloc, engine, &ops).is_ok(),
+        Err(_fault) => false,
     }
+}
+
+/// Does the operations at an engine, if the files can be opened, which gives them up then: whether there was memory.
+pub(crate) fn are_done<F: Faulty>(alloc: Global, held: &mut Held<F>, plans: &[Plan]) -> bool {
+    let is_read = held.open(alloc, TAIL);
+    let are_run = match held {
+        Held::Engine(engine) => are_run(alloc, engine, plans),
+        _ => true,
+    };
+    held.give_up();
+    is_read && are_run
 }

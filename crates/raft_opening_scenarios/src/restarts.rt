@@ -1,15 +1,14 @@
 //! Openings of several log files that stop, or in which one call fails, and the next one.
 
-use crate::openings::{ABSOLUTE, ANY, TAIL, tell};
+use crate::openings::{ABSOLUTE, ANY, TAIL};
 use crate::stored::{
     ALL, BROKEN_2, HEADER_2, HEADER_MOVED, PUT_1, PUT_2, PUT_3, Stored, THREE, have, make,
 };
 use raft_env::IoKind;
-use raft_memory::{FsCall, MemoryFileSystem};
+use raft_memory::FsCall;
 use raft_records::Fault;
 use raft_test_rows::{Failing, Faulty, Held, Left, RecoveryMode, State};
 use std::alloc::Global;
-use std::test::Fail;
 
 /// Three files, each of which an opening changes in the mode that takes all.
 const BROKEN: &[Stored] = &[
@@ -110,10 +109,7 @@ fn finds_rest<F: Faulty>(
         return None;
     }
     held.give_up();
-    let is_refused = match held.files() {
-        Some(files) => files.refusals() > 0,
-        None => false,
-    };
+    let is_refused = held.refusals() > 0;
     if held.crash(alloc, left) && held.open(alloc, mode) && held.has_come_to(&Ok(WITHOUT_2)) {
         Some(is_refused)
     } else {
@@ -167,28 +163,14 @@ fn wrong_in<F: Faulty>(
     None
 }
 
-// The first calls, and the place of what a crash leaves, at which something is wrong, or that are
-// fewer or more.
-fn wrong_call<F: Faulty>(
+/// The first calls, and the place of what a crash leaves, at which something is wrong, or that are
+/// fewer or more.
+pub(crate) fn wrong_call<F: Faulty>(
     alloc: Global,
-    files: F,
-    calls: &'static [Calls],
-    lefts: &'static [Option<Left>],
+    held: &mut Held<F>,
 ) -> Option<(&'static str, usize)> {
-    let mut held = Held::Files(files);
-    let wrong = wrong_in(alloc, &mut held, calls, lefts);
-    held.into_files();
-    wrong
-}
-
-#[test]
-fn refused_read_cuts_nothing(rt: HostRuntime) -> Result<(), Fail> {
-    let files = MemoryFileSystem::new(rt.alloc());
-    tell(wrong_call(rt.alloc(), files, &READS, &WHOLE))
-}
-
-#[test]
-fn an_opening_may_stop_anywhere(rt: HostRuntime) -> Result<(), Fail> {
-    let files = MemoryFileSystem::new(rt.alloc());
-    tell(wrong_call(rt.alloc(), files, &CALLS, &LEFT))
+    match wrong_in(alloc, held, &READS, &WHOLE) {
+        None => wrong_in(alloc, held, &CALLS, &LEFT),
+        wrong => wrong,
+    }
 }

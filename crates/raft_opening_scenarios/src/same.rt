@@ -1,273 +1,307 @@
 //! Workers find, cut and refuse what an opening in order does.
 
+use crate::folders::{FOLDERS, Filling, Folder, LOG_8, WHOLE};
 use crate::openings::{
-    ANY, LEFTS, MODES, WORKERS, are_same_files, break_byte, open_by_workers, open_in_order,
-    refusal_by_workers, written,
+    ANY, MODES, are_done, break_byte, have_same_answers, have_same_files, open_by_workers, tell,
 };
-use raft_env::IoKind;
+use crate::stored::{Stored, are_stored_in_raft};
+use raft_env::{FileSystem, IoKind};
 use raft_memory::{FsCall, MemoryFileSystem};
 use raft_records::Fault;
-use raft_test_rows::{Change, EXPIRED, Failing, Faulty, Left, OPERATIONS, PURGES, Plan};
+use raft_test_rows::{Engine, Failing, Faulty, Held, Image, Left, RecoveryMode};
 use std::alloc::Global;
-use std::process::Abort;
 use std::test::Fail;
 use std::thread::Threads;
 
-/// Of each value of 1 KB a log file is full: eight files of the Append queue, and, once the first ones are rewritten, two
-/// of the Rewrite queue.
-const MANY: [Plan; 10] = [
-    Plan::Write(
-        &[
-            Change::Entries(3, 1, 4, b"x"),
-            Change::Put(1, b"a", &[1; 1000]),
-        ],
-        false,
-    ),
-    Plan::Write(
-        &[
-            Change::Entries(3, 3, 5, b"y"),
-            Change::Put(1, b"b", &[2; 1000]),
-        ],
-        false,
-    ),
-    Plan::RewriteAppend(Some(1), Some(2)),
-    Plan::Write(
-        &[
-            Change::Delete(1, b"a"),
-            Change::Compact(3, 3),
-            Change::Put(2, b"c", &[3; 1000]),
-        ],
-        false,
-    ),
-    Plan::RewriteAppend(Some(2), Some(2)),
-    Plan::Write(&[Change::Clean(1), Change::Put(1, b"b", &[4; 1000])], false),
-    Plan::Write(
-        &[
-            Change::Entries(3, 6, 7, b"z"),
-            Change::Put(2, b"d", &[5; 1000]),
-        ],
-        false,
-    ),
-    Plan::Write(&[Change::Clean(3), Change::Put(2, b"c", &[6; 1000])], false),
-    Plan::Write(
-        &[
-            Change::Entries(3, 1, 3, b"w"),
-            Change::Put(1, b"a", &[7; 1000]),
-        ],
-        false,
-    ),
-    Plan::Write(&[Change::Entries(3, 2, 4, b"v")], true),
-];
-
-/// Operations that fill a folder.
-struct Filled {
-    name: &'static str,
-    plans: &'static [Plan],
-}
-
-static FILLED: [Filled; 4] = [
-    Filled {
-        name: "operations",
-        plans: &OPERATIONS,
-    },
-    Filled {
-        name: "purges",
-        plans: &PURGES,
-    },
-    Filled {
-        name: "purges by watermarks",
-        plans: &EXPIRED,
-    },
-    Filled {
-        name: "many files",
-        plans: &MANY,
-    },
-];
+/// So many workers read the files.
+const WORKERS: [usize; 4] = [1, 2, 3, 8];
 
 /// More reads than an opening makes.
 const MAX_READS: u64 = 60;
 
-/// From these changes on none is done, or all are.
-const STOPS: [u64; 3] = [21, 47, u64::MAX];
+/// What a crash may leave of each log file.
+static LEFTS: [Left; 3] = [Left::All, Left::Synced, Left::Torn(7, 255)];
 
-/// Files of which a byte is broken: their paths, and its place.
-struct Broken {
-    name: &'static str,
-    bytes: &'static [(&'static str, usize)],
+static ALL: [Left; 1] = [Left::All];
+
+/// A folder, and two copies of it, of which the first is opened in order and the second by workers.
+#[derive(Drop)]
+struct Trio<F: FileSystem> {
+    filled: Held<F>,
+    wanted: Held<F>,
+    opened: Held<F>,
 }
 
-const LOG_1: &str = "raft/0000000000000001.raftlog";
+impl<F: Faulty> Trio<F> {
+    fn end(self) {
+        self.filled.into_files();
+        self.wanted.into_files();
+        self.opened.into_files();
+    }
 
-const LOG_3: &str = "raft/0000000000000003.raftlog";
+    // Makes both copies as a crash leaves them: whether there was memory.
+    fn copy(&mut self, alloc: Global, left: &Left) -> bool {
+        self.wanted.hold_left(alloc, &mut self.filled, left)
+            && self.opened.hold_left(alloc, &mut self.filled, left)
+    }
 
-const LOG_5: &str = "raft/0000000000000005.raftlog";
+    // Whether both openings found the same and left the same files.
+    fn are_alike(&mut self, alloc: Global) -> bool {
+        have_same_answers(&mut self.wanted, &mut self.opened)
+            && have_same_files(alloc, &mut self.wanted, &mut self.opened)
+    }
+}
 
-const LOG_8: &str = "raft/0000000000000008.raftlog";
+fn are_broken<F: FileSystem>(files: &mut F, bytes: &[(&str, usize)]) -> bool {
+    for (path, at) in bytes {
+        if break_byte(files, path, *at).is_err() {
+            return false;
+        }
+    }
+    true
+}
 
-const REWRITE_1: &str = "raft/0000000000000001.rewrite";
+fn breaks<F: Faulty>(held: &mut Held<F>, bytes: &[(&str, usize)]) -> bool {
+    match held.files() {
+        Some(files) => are_broken(files, bytes),
+        None => false,
+    }
+}
 
-static BROKEN: [Broken; 8] = [
-    Broken {
-        name: "none",
-        bytes: &[],
-    },
-    Broken {
-        name: "a header of the first file",
-        bytes: &[(LOG_1, 3)],
-    },
-    Broken {
-        name: "entries of the first file",
-        bytes: &[(LOG_1, 86)],
-    },
-    Broken {
-        name: "a record in the middle",
-        bytes: &[(LOG_3, 600)],
-    },
-    Broken {
-        name: "a header and a record in the middle",
-        bytes: &[(LOG_3, 60), (LOG_5, 600)],
-    },
-    Broken {
-        name: "the last file",
-        bytes: &[(LOG_8, 90)],
-    },
-    Broken {
-        name: "the Rewrite queue",
-        bytes: &[(REWRITE_1, 90)],
-    },
-    Broken {
-        name: "both queues",
-        bytes: &[(LOG_1, 600), (LOG_8, 3), (REWRITE_1, 3)],
-    },
-];
+fn stores<F: Faulty>(held: &mut Held<F>, stored: &[Stored]) -> bool {
+    match held.files() {
+        Some(files) => are_stored_in_raft(files, stored),
+        None => false,
+    }
+}
 
-/// Of what a crash leaves so of the files, in each mode, and for each number of workers, the image or
-/// the fault and the files are those of an opening in order.
-pub(crate) fn opens_alike<R: Threads + Sync + Abort, F: Faulty>(
+// Fills new files: whether there was memory.
+fn fills<F: Faulty>(alloc: Global, held: &mut Held<F>, filling: &Filling) -> bool {
+    held.renew(alloc);
+    match filling {
+        Filling::Done(plans, stop) => {
+            held.fail(Failing::From(*stop)) && are_done(alloc, held, plans)
+        }
+        Filling::Stored(stored, _) => stores(held, stored),
+    }
+}
+
+// Whether workers open copies as an opening in order does.
+fn opens_alike<R: Threads + Sync, F: Faulty>(
     rt: &R,
     alloc: Global,
-    files: &F,
-    kept: &Left,
-    name: &str,
-) -> Result<(), Fail> {
+    trio: &mut Trio<F>,
+    left: &Left,
+    mode: RecoveryMode,
+    workers: usize,
+) -> bool {
+    trio.copy(alloc, left)
+        && trio.wanted.open(alloc, mode)
+        && open_by_workers(rt, alloc, &mut trio.opened, mode, workers)
+        && trio.are_alike(alloc)
+}
+
+// How many workers open copies otherwise in one of the modes.
+fn wrong_workers<R: Threads + Sync, F: Faulty>(
+    rt: &R,
+    alloc: Global,
+    trio: &mut Trio<F>,
+    left: &Left,
+) -> Option<usize> {
     for mode in &MODES {
-        let mut wanted = open_in_order(alloc, *mode, files.left(alloc, kept)?)?;
         for workers in &WORKERS {
-            let files = files.left(alloc, kept)?;
-            let mut opened = open_by_workers(rt, alloc, *mode, *workers, files)?;
-            let is_alike = opened.answer == wanted.answer
-                && are_same_files(alloc, &mut opened.files, &mut wanted.files)?;
-            assert!(rt; is_alike, "{name}, {mode:?}, {workers} workers");
+            if !opens_alike(rt, alloc, trio, left, *mode, *workers) {
+                return Some(*workers);
+            }
         }
     }
-    Ok(())
+    None
 }
 
-// New files are filled up to a stop, and crash in three ways.
-fn fills_alike<R: Threads + Sync + Abort, F: Faulty>(
+fn are_at(entries: &[(u64, Vec<u8>)], indexes: &[u64]) -> bool {
+    for (entry, index) in entries.iter().zip(indexes.iter()) {
+        if entry.0 != *index {
+            return false;
+        }
+    }
+    entries.len() == indexes.len()
+}
+
+fn has_these(image: &Image, indexes: &[u64]) -> bool {
+    match image.groups.as_slice() {
+        [group] => group.group == 1 && are_at(&group.entries, indexes),
+        _ => false,
+    }
+}
+
+fn shows<F: FileSystem>(engine: &mut Engine<F>, indexes: &[u64]) -> bool {
+    match engine.image() {
+        Ok(image) => has_these(&image, indexes),
+        Err(_fault) => false,
+    }
+}
+
+// Whether an opening in order finds these entries alone.
+fn finds<F: Faulty>(
+    alloc: Global,
+    trio: &mut Trio<F>,
+    mode: RecoveryMode,
+    indexes: &[u64],
+) -> bool {
+    let is_open = trio.copy(alloc, &Left::All) && trio.wanted.open(alloc, mode);
+    match &mut trio.wanted {
+        Held::Engine(engine) => is_open && shows(engine, indexes),
+        _ => false,
+    }
+}
+
+// .. in each mode, if the files were stored.
+fn finds_stored<F: Faulty>(alloc: Global, trio: &mut Trio<F>, filling: &Filling) -> bool {
+    match filling {
+        Filling::Done(_, _) => true,
+        Filling::Stored(_, indexes) => {
+            for mode in &MODES {
+                if !finds(alloc, trio, *mode, indexes) {
+                    return false;
+                }
+            }
+            true
+        }
+    }
+}
+
+fn lefts_of(folder: &Folder) -> &'static [Left] {
+    if folder.3 {
+        LEFTS.as_slice()
+    } else {
+        ALL.as_slice()
+    }
+}
+
+fn wrong_in<R: Threads + Sync, F: Faulty>(
     rt: &R,
     alloc: Global,
-    mut files: F,
-    filled: &Filled,
-    stop: u64,
-) -> Result<(), Fail> {
-    files.fail(Failing::From(stop))?;
-    let files = written(alloc, filled.plans, files)?;
-    for kept in &LEFTS {
-        opens_alike(rt, alloc, &files, kept, filled.name)?;
+    trio: &mut Trio<F>,
+    folder: &Folder,
+) -> Option<usize> {
+    let is_filled = fills(alloc, &mut trio.filled, &folder.1)
+        && breaks(&mut trio.filled, folder.2)
+        && finds_stored(alloc, trio, &folder.1);
+    if !is_filled {
+        return Some(0);
     }
-    Ok(())
-}
-
-#[test]
-fn workers_find_what_is_found_in_order(rt: HostRuntime) -> Result<(), Fail> {
-    for filled in &FILLED {
-        for stop in &STOPS {
-            let files = MemoryFileSystem::new(rt.alloc());
-            fills_alike(&rt, rt.alloc(), files, filled, *stop)?;
+    for left in lefts_of(folder) {
+        if let Some(workers) = wrong_workers(rt, alloc, trio, left) {
+            return Some(workers);
         }
     }
-    Ok(())
+    None
 }
 
-fn break_alike<R: Threads + Sync + Abort, F: Faulty>(
-    rt: &R,
-    alloc: Global,
-    files: F,
-) -> Result<(), Fail> {
-    let files = written(alloc, &MANY, files)?;
-    for broken in &BROKEN {
-        let mut found = files.left(alloc, &Left::All)?;
-        for (path, at) in broken.bytes {
-            break_byte(&mut found, path, *at)?;
-        }
-        opens_alike(rt, alloc, &found, &Left::All, broken.name)?;
+// Whether the opening fails by a read, if it fails.
+fn is_refused<F: Faulty>(held: &Held<F>) -> Option<bool> {
+    match held.fault()? {
+        Fault::Io(IoKind::Other, _) => Some(true),
+        _ => Some(false),
     }
-    Ok(())
 }
 
-#[test]
-fn workers_cut_and_refuse_what_is_broken(rt: HostRuntime) -> Result<(), Fail> {
-    break_alike(&rt, rt.alloc(), MemoryFileSystem::new(rt.alloc()))
-}
-
-// With the nth read failing: whether there were so many, or nothing where the opening doesn't fail by it or changes a
+// With the nth read failing: whether there were so many, or nothing if the opening doesn't fail by it or changes a
 // file.
 fn refuse_read<R: Threads + Sync, F: Faulty>(
     rt: &R,
     alloc: Global,
-    found: &F,
+    trio: &mut Trio<F>,
     workers: usize,
     nth: u64,
-) -> Result<Option<bool>, Fail> {
-    let mut files = found.left(alloc, &Left::All)?;
-    files.fail(Failing::Nth(FsCall::Read, nth, IoKind::Other))?;
-    let (fault, mut files) = refusal_by_workers(rt, alloc, ANY, workers, files)?;
-    let is_met = files.refusals() > 0;
-    let is_right = match &fault {
-        Some(Fault::Io(IoKind::Other, _)) => {
-            let mut before = found.left(alloc, &Left::All)?;
-            is_met && are_same_files(alloc, &mut files, &mut before)?
+) -> Option<bool> {
+    let is_open = trio.copy(alloc, &Left::All)
+        && trio
+            .opened
+            .fail(Failing::Nth(FsCall::Read, nth, IoKind::Other))
+        && open_by_workers(rt, alloc, &mut trio.opened, ANY, workers);
+    let refused = is_refused(&trio.opened);
+    trio.opened.give_up();
+    let is_met = trio.opened.refusals() > 0;
+    let is_right = match refused {
+        Some(by_read) => {
+            by_read && is_met && have_same_files(alloc, &mut trio.opened, &mut trio.wanted)
         }
-        Some(_) => false,
         None => !is_met,
     };
-    Ok(if is_right { Some(is_met) } else { None })
+    if is_open && is_right {
+        Some(is_met)
+    } else {
+        None
+    }
 }
 
-// The first read that doesn't come, or after which something is wrong, and whether it is the former.
-fn first_missing<R: Threads + Sync, F: Faulty>(
+// The first read of which something is wrong, up to one that doesn't come.
+fn wrong_read<R: Threads + Sync, F: Faulty>(
     rt: &R,
     alloc: Global,
-    found: &F,
+    trio: &mut Trio<F>,
     workers: usize,
-) -> Result<(u64, bool), Fail> {
+) -> Option<u64> {
     for nth in 1..MAX_READS {
-        match refuse_read(rt, alloc, found, workers, nth)? {
+        match refuse_read(rt, alloc, trio, workers, nth) {
             Some(true) => {}
-            Some(false) => return Ok((nth, true)),
-            None => return Ok((nth, false)),
+            Some(false) => return None,
+            None => return Some(nth),
         }
     }
-    Ok((MAX_READS, false))
+    Some(MAX_READS)
 }
 
-fn refuse_reads<R: Threads + Sync + Abort, F: Faulty>(
+// How many workers go on after a failing read, or change a file. The last file would be cut.
+fn wrong_reads<R: Threads + Sync, F: Faulty>(
+    rt: &R,
+    alloc: Global,
+    trio: &mut Trio<F>,
+) -> Option<usize> {
+    if !fills(alloc, &mut trio.filled, &WHOLE) || !breaks(&mut trio.filled, &[(LOG_8, 90)]) {
+        return Some(0);
+    }
+    for workers in &WORKERS {
+        if wrong_read(rt, alloc, trio, *workers).is_some() {
+            return Some(*workers);
+        }
+    }
+    None
+}
+
+fn wrong_row<R: Threads + Sync, F: Faulty>(
+    rt: &R,
+    alloc: Global,
+    trio: &mut Trio<F>,
+) -> Option<(&'static str, usize)> {
+    for folder in &FOLDERS {
+        if let Some(workers) = wrong_in(rt, alloc, trio, folder) {
+            return Some((folder.0, workers));
+        }
+    }
+    match wrong_reads(rt, alloc, trio) {
+        Some(workers) => Some(("refused reads", workers)),
+        None => None,
+    }
+}
+
+fn wrong_folder<R: Threads + Sync, F: Faulty>(
     rt: &R,
     alloc: Global,
     files: F,
-) -> Result<(), Fail> {
-    let mut found = written(alloc, &MANY, files)?;
-    // The last file would be cut.
-    break_byte(&mut found, LOG_8, 90)?;
-    for workers in &WORKERS {
-        let (nth, is_missing) = first_missing(rt, alloc, &found, *workers)?;
-        assert!(rt; is_missing, "{workers} workers, read {nth}");
-    }
-    Ok(())
+) -> Option<(&'static str, usize)> {
+    let mut trio = Trio {
+        filled: Held::Files(files),
+        wanted: Held::Nothing,
+        opened: Held::Nothing,
+    };
+    let wrong = wrong_row(rt, alloc, &mut trio);
+    trio.end();
+    wrong
 }
 
 #[test]
-fn refused_reads_of_workers_change_nothing(rt: HostRuntime) -> Result<(), Fail> {
-    refuse_reads(&rt, rt.alloc(), MemoryFileSystem::new(rt.alloc()))
+fn workers_open_as_in_order(rt: HostRuntime) -> Result<(), Fail> {
+    tell(wrong_folder(&rt, rt.alloc(), MemoryFileSystem::new(rt.alloc())))
 }

@@ -2,7 +2,7 @@
 
 use crate::openings::bytes_of;
 use raft_env::{FileSystem, FsFault};
-use raft_rows::store;
+use raft_rows::{store, store_in};
 use raft_test_rows::{EMPTY, Faulty, Held, State};
 use std::alloc::Global;
 
@@ -57,19 +57,38 @@ fn is_joined(bytes: &[u8], parts: &[&[u8]]) -> bool {
     rest.is_empty()
 }
 
+fn is_stored<F: FileSystem>(alloc: Global, files: &mut F, path: &str, parts: &[&[u8]]) -> bool {
+    match bytes_of(alloc, files, path) {
+        Ok(bytes) => is_joined(&bytes, parts),
+        Err(_fault) => false,
+    }
+}
+
 fn are_stored<F: FileSystem>(
     alloc: Global,
     files: &mut F,
     stored: &[Stored],
     count: usize,
-) -> Result<bool, FsFault> {
+) -> bool {
     for (path, parts) in stored {
-        let bytes = bytes_of(alloc, files, path)?;
-        if !is_joined(&bytes, parts) {
-            return Ok(false);
+        if !is_stored(alloc, files, path, parts) {
+            return false;
         }
     }
-    Ok(files.list("raft")?.len() == count)
+    match files.list("raft") {
+        Ok(names) => names.len() == count,
+        Err(_fault) => false,
+    }
+}
+
+/// Makes these files, and the folder raft: whether that is done.
+pub(crate) fn are_stored_in_raft<F: FileSystem>(files: &mut F, stored: &[Stored]) -> bool {
+    for (path, parts) in stored {
+        if store_in(files, "raft", path, parts).is_err() {
+            return false;
+        }
+    }
+    true
 }
 
 fn store_all<F: FileSystem>(files: &mut F, stored: &[Stored]) -> Result<usize, FsFault> {
@@ -80,12 +99,11 @@ fn store_all<F: FileSystem>(files: &mut F, stored: &[Stored]) -> Result<usize, F
     Ok(files.list("raft")?.len())
 }
 
-/// Makes these files, and a folder beside them. Answers how many the log's folder has, if it is
-/// done.
+/// Makes these files, and a folder beside them: how many the log's folder has then, if it is done.
 pub(crate) fn make<F: Faulty>(held: &mut Held<F>, stored: &[Stored]) -> Option<usize> {
     match store_all(held.files()?, stored) {
         Ok(count) => Some(count),
-        Err(_) => None,
+        Err(_fault) => None,
     }
 }
 
@@ -97,7 +115,7 @@ pub(crate) fn have<F: Faulty>(
     count: usize,
 ) -> bool {
     match held.files() {
-        Some(files) => matches!(are_stored(alloc, files, stored, count), Ok(true)),
+        Some(files) => are_stored(alloc, files, stored, count),
         None => false,
     }
 }

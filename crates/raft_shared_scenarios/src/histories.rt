@@ -1,10 +1,9 @@
-//! Calls of seats at a shared engine, what each is told, and whether the history can be finished.
+//! Calls of seats at a shared engine, what each returns, and whether the history can be finished.
 
-use crate::asked::{Ask, Told, put_of};
-use crate::seated::{Faulty, Seated, end, last_keys, open};
+use crate::asked::{Ask, Told};
+use crate::seated::{Faulty, Seated};
 use crate::stories::{End, Handed, Step, Story, wrong_place};
-use raft_log_engine::{Engine, Fault, MemoryFileSystem};
-use raft_shared::Shared;
+use raft_log_engine::MemoryFileSystem;
 use std::alloc::Global;
 use std::test::Fail;
 
@@ -233,35 +232,40 @@ static STORIES: [Story; 11] = [
     },
 ];
 
-#[test]
-fn histories(rt: HostRuntime) -> Result<(), Fail> {
+fn wrong_in<F: Faulty>(
+    alloc: Global,
+    seated: &mut Seated<F>,
+    other: &mut Seated<F>,
+) -> Option<(&'static str, usize)> {
     for story in &STORIES {
-        if let Some(place) = wrong_place::<MemoryFileSystem>(rt.alloc(), story)? {
-            return Err(Fail::new(format_args!("{}, step {place}", story.name)));
+        if let Some(place) = wrong_place(alloc, seated, other, story) {
+            return Some((story.name, place));
         }
     }
-    Ok(())
+    if seated.comes_back(alloc, usize::MAX) {
+        None
+    } else {
+        Some((
+            "an engine that can't be shared, since there is no memory for so many calls",
+            0,
+        ))
+    }
 }
 
-// The keys of an engine that could not be shared, since there is no memory for so many calls.
-fn keys_of_refused<F: Faulty>(alloc: Global) -> Result<Option<usize>, Fault> {
-    let mut batch = put_of(alloc, 1, b"k", b"v")?;
-    let mut engine: Engine<F> = open(alloc, F::fresh(alloc))?;
-    let written = engine.write(&mut batch, false);
-    let keys = match Shared::new(alloc, engine, usize::MAX) {
-        Ok(shared) => {
-            let seats = Vec::new(alloc);
-            end(Seated { shared, seats });
-            None
-        }
-        Err(refused) => last_keys(refused.engine),
-    };
-    written?;
-    Ok(keys)
+fn wrong_story<F: Faulty>(alloc: Global, files: F, more: F) -> Option<(&'static str, usize)> {
+    let mut seated = Seated::new(alloc, files);
+    let mut other = Seated::new(alloc, more);
+    let wrong = wrong_in(alloc, &mut seated, &mut other);
+    seated.end(alloc);
+    other.end(alloc);
+    wrong
 }
 
 #[test]
-fn an_engine_that_is_not_shared_comes_back(rt: HostRuntime) -> Result<(), Fail> {
-    assert!(rt; keys_of_refused::<MemoryFileSystem>(rt.alloc())? == Some(1));
-    Ok(())
+fn histories(rt: HostRuntime) -> Result<(), Fail> {
+    let files = MemoryFileSystem::new(rt.alloc());
+    match wrong_story(rt.alloc(), files, MemoryFileSystem::new(rt.alloc())) {
+        None => Ok(()),
+        Some((name, place)) => Err(Fail::new(format_args!("{name}, step {place}"))),
+    }
 }

@@ -1,9 +1,10 @@
-//! Shared engines over files in memory, and their seats.
+//! An engine over files in memory that is shared, and its seats.
 
-use crate::asked::{Ask, batch_of};
+use crate::asked::{Ask, batch_of, put_of};
 use raft_log_engine::{Config, Engine, Fault, FileSystem, Fresh, FsCall, IoKind, MemoryFileSystem};
 use raft_shared::{Finished, Receipt, Recorded, Seat, Shared, Unfinished};
 use std::alloc::Global;
+use std::mem;
 
 /// Files that fail and crash as they are told.
 pub(crate) trait Faulty: FileSystem + Drop {
@@ -31,18 +32,47 @@ impl Faulty for MemoryFileSystem {
     }
 }
 
-/// A shared engine, and the seats that it gave.
+/// The code of a `Fault` for lack of memory.
+pub(crate) const MEMORY: u8 = 12;
+
+/// Where the files are.
 #[derive(Drop)]
-pub(crate) struct Seated<F: FileSystem> {
-    pub(crate) shared: Shared<F>,
-    pub(crate) seats: Vec<Seat>,
+enum Stage<F: FileSystem> {
+    Files(F),
+    Alone(Engine<F>),
+    Shared(Shared<F>),
+    Nothing,
+}
+
+fn engine_of<F: FileSystem>(alloc: Global, shared: Shared<F>) -> Engine<F> {
+    match shared.finish(Vec::new(alloc)) {
+        Ok(Finished { engine, .. }) => engine,
+        Err(Unfinished { engine, .. }) => engine,
+    }
 }
 
 pub(crate) fn open<F: FileSystem + Drop>(alloc: Global, files: F) -> Result<Engine<F>, Fault> {
-    Ok(Engine::open_in_order(alloc, Config::fresh(alloc), files)?)
+    match Engine::open_in_order(alloc, Config::fresh(alloc), files) {
+        Ok(engine) => Ok(engine),
+        Err(refused) => Err(refused.fault),
+    }
 }
 
-fn take_seats<F: FileSystem>(
+fn share_engine<F: FileSystem + Drop>(
+    alloc: Global,
+    engine: Engine<F>,
+    limit: usize,
+) -> Result<Shared<F>, Fault> {
+    match Shared::new(alloc, engine, limit) {
+        Ok(shared) => Ok(shared),
+        Err(refused) => {
+            refused.engine.give_up();
+            Err(refused.fault)
+        }
+    }
+}
+
+fn seats_of<F: FileSystem>(
     alloc: Global,
     shared: &mut Shared<F>,
     count: usize,
@@ -54,97 +84,58 @@ fn take_seats<F: FileSystem>(
     Ok(seats)
 }
 
-/// Shares an engine over new files, for so many calls, with so many seats. The first sync after the
-/// opening fails where that is said.
-pub(crate) fn begin<F: Faulty>(
+/// A shared engine over files, for so many calls, and so many seats.
+pub(crate) fn share<F: FileSystem + Drop>(
     alloc: Global,
-    is_sync_refused: bool,
+    files: F,
     limit: usize,
     count: usize,
-) -> Result<Seated<F>, Fault> {
-    let mut engine: Engine<F> = open(alloc, F::fresh(alloc))?;
-    if is_sync_refused {
-        if let Err(fault) = F::refuse_sync(&mut engine) {
-            engine.give_up();
-            return Err(fault);
-        }
-    }
-    let mut shared = match Shared::new(alloc, engine, limit) {
-        Ok(shared) => shared,
-        Err(refused) => {
-            refused.engine.give_up();
-            return Err(refused.fault);
-        }
-    };
-    match take_seats(alloc, &mut shared, count) {
-        Ok(seats) => Ok(Seated { shared, seats }),
+) -> Result<(Shared<F>, Vec<Seat>), Fault> {
+    let mut shared = share_engine(alloc, open(alloc, files)?, limit)?;
+    match seats_of(alloc, &mut shared, count) {
+        Ok(seats) => Ok((shared, seats)),
         Err(fault) => {
-            let seats = Vec::new(alloc);
-            end(Seated { shared, seats });
+            engine_of(alloc, shared).give_up();
             Err(fault)
         }
     }
 }
 
-impl<F: FileSystem> Seated<F> {
-    /// Asks by the seat of this number, which no story lacks. Writes without numbers aren't synced.
-    pub(crate) fn ask(&mut self, alloc: Global, seat: usize, ask: &Ask) -> Result<Receipt, Fault> {
-        match self.seats.get_mut(seat) {
-            Some(seat) => match ask {
-                Ask::Put(_, _, _) | Ask::Entries(_) => {
-                    let mut batch = batch_of(alloc, ask)?;
-                    self.shared.write(seat, &mut batch, false)
-                }
-                Ask::PutOnce(_, pairs) => {
-                    let mut batch = batch_of(alloc, ask)?;
-                    self.shared.write_once(seat, &mut batch, pairs, true)
-                }
-                Ask::Get(group, key) => self.shared.get(seat, *group, key),
-                Ask::First(group) => self.shared.first_index(seat, *group),
-                Ask::Last(group) => self.shared.last_index(seat, *group),
-                Ask::Sync => self.shared.sync(seat),
-            },
-            None => Err(Fault::Failed),
-        }
+// The proof of a drop is long, so that what holds an engine ends by calls.
+fn files_of<F: FileSystem>(alloc: Global, stage: Stage<F>) -> Option<F> {
+    match stage {
+        Stage::Files(files) => Some(files),
+        Stage::Alone(engine) => Some(engine.give_up()),
+        Stage::Shared(shared) => Some(engine_of(alloc, shared).give_up()),
+        Stage::Nothing => None,
     }
 }
 
-/// What there is once the seats were handed over.
+/// An engine and its seats, and what came of them.
 #[derive(Drop)]
-pub(crate) struct Ended<F: FileSystem> {
-    pub(crate) engine: Engine<F>,
-    pub(crate) trail: Vec<Recorded>,
-    /// The code of the refusal, and how many seats came back.
+pub(crate) struct Seated<F: FileSystem> {
+    stage: Stage<F>,
+    pub(crate) seats: Vec<Seat>,
+    /// Once the seats were handed over: how many calls the history has, and the code of the fault and how many seats came
+    /// back, if they are refused.
+    pub(crate) calls: usize,
     pub(crate) refused: Option<(u8, usize)>,
+    /// The code of the fault for which the engine could not be opened or shared.
+    pub(crate) code: u8,
 }
 
-pub(crate) fn hand_over<F: FileSystem + Drop>(seated: Seated<F>) -> Ended<F> {
-    let Seated { shared, seats } = seated;
-    match shared.finish(seats) {
-        Ok(Finished { engine, trail }) => Ended {
-            engine,
-            trail,
-            refused: None,
-        },
-        Err(
-            Unfinished {
-                fault,
-                engine,
-                trail,
-                seats,
-            },
-        ) => Ended {
-            engine,
-            trail,
-            refused: Some((fault.code(), seats.len())),
-        },
+/// How many keys the groups hold, if the engine hasn't failed.
+fn keys_in<F: FileSystem>(engine: &mut Engine<F>) -> Option<usize> {
+    match engine.image() {
+        Ok(image) => {
+            let mut keys = 0usize;
+            for group in &image.groups {
+                keys = keys.saturating_add(group.pairs.len());
+            }
+            Some(keys)
+        }
+        Err(_fault) => None,
     }
-}
-
-/// Ends it by calls: the proof of a drop of what holds an engine is written out where it stands.
-pub(crate) fn end<F: FileSystem + Drop>(seated: Seated<F>) {
-    let ended = hand_over(seated);
-    ended.engine.give_up();
 }
 
 /// How many keys the groups of an engine hold that then ends.
@@ -154,16 +145,273 @@ pub(crate) fn last_keys<F: FileSystem + Drop>(mut engine: Engine<F>) -> Option<u
     keys
 }
 
-/// How many keys the groups hold, where the engine stands.
-pub(crate) fn keys_in<F: FileSystem>(engine: &mut Engine<F>) -> Option<usize> {
-    match engine.image() {
-        Ok(image) => {
-            let mut keys = 0usize;
-            for group in &image.groups {
-                keys = keys.saturating_add(group.pairs.len());
-            }
-            Some(keys)
+/// Writes the batch that a call asks for, and doesn't sync it.
+fn write<F: FileSystem>(
+    alloc: Global,
+    shared: &mut Shared<F>,
+    seat: &mut Seat,
+    ask: &Ask,
+) -> Result<Receipt, Fault> {
+    let mut batch = batch_of(alloc, ask)?;
+    shared.write(seat, &mut batch, false)
+}
+
+fn write_once<F: FileSystem>(
+    alloc: Global,
+    shared: &mut Shared<F>,
+    seat: &mut Seat,
+    ask: &Ask,
+    pairs: &[(u64, u64)],
+) -> Result<Receipt, Fault> {
+    let mut batch = batch_of(alloc, ask)?;
+    shared.write_once(seat, &mut batch, pairs, true)
+}
+
+fn ask_by<F: FileSystem>(
+    alloc: Global,
+    shared: &mut Shared<F>,
+    seat: &mut Seat,
+    ask: &Ask,
+) -> Result<Receipt, Fault> {
+    match ask {
+        Ask::Put(_, _, _) | Ask::Entries(_) => write(alloc, shared, seat, ask),
+        Ask::PutOnce(_, pairs) => write_once(alloc, shared, seat, ask, pairs),
+        Ask::Get(group, key) => shared.get(seat, *group, key),
+        Ask::First(group) => shared.first_index(seat, *group),
+        Ask::Last(group) => shared.last_index(seat, *group),
+        Ask::Sync => shared.sync(seat),
+    }
+}
+
+fn is_put<F: FileSystem>(alloc: Global, engine: &mut Engine<F>) -> bool {
+    match put_of(alloc, 1, b"k", b"v") {
+        Ok(mut batch) => engine.write(&mut batch, false).is_ok(),
+        Err(_fault) => false,
+    }
+}
+
+fn is_value(value: Option<Vec<u8>>, wanted: Option<&[u8]>) -> bool {
+    match (&value, wanted) {
+        (Some(value), Some(wanted)) => value.as_slice() == wanted,
+        (None, None) => true,
+        _ => false,
+    }
+}
+
+fn has_value<F: FileSystem>(engine: &Engine<F>, wanted: Option<&[u8]>) -> bool {
+    match engine.get(1, b"k") {
+        Ok(value) => is_value(value, wanted),
+        Err(_fault) => false,
+    }
+}
+
+impl<F: Faulty> Seated<F> {
+    pub(crate) fn new(alloc: Global, files: F) -> Seated<F> {
+        Seated {
+            stage: Stage::Files(files),
+            seats: Vec::new(alloc),
+            calls: 0,
+            refused: None,
+            code: 0,
         }
-        Err(_) => None,
+    }
+
+    /// Ends it by calls.
+    pub(crate) fn end(self, alloc: Global) {
+        files_of(alloc, self.stage);
+    }
+
+    fn take(&mut self, alloc: Global) -> Option<F> {
+        files_of(alloc, mem::replace(&mut self.stage, Stage::Nothing))
+    }
+
+    fn hold(&mut self, alloc: Global, stage: Stage<F>) {
+        files_of(alloc, mem::replace(&mut self.stage, stage));
+    }
+
+    fn open(&mut self, alloc: Global) -> bool {
+        let Some(files) = self.take(alloc) else {
+            return false;
+        };
+        match Engine::open_in_order(alloc, Config::fresh(alloc), files) {
+            Ok(engine) => {
+                self.hold(alloc, Stage::Alone(engine));
+                true
+            }
+            Err(refused) => {
+                self.code = refused.fault.code();
+                self.hold(alloc, Stage::Files(refused.file_system));
+                false
+            }
+        }
+    }
+
+    // The next sync fails, if that is said.
+    fn arm(&mut self, is_sync_refused: bool) -> bool {
+        match &mut self.stage {
+            Stage::Alone(engine) => !is_sync_refused || F::refuse_sync(engine).is_ok(),
+            _ => false,
+        }
+    }
+
+    fn share(&mut self, alloc: Global, limit: usize) -> bool {
+        match mem::replace(&mut self.stage, Stage::Nothing) {
+            Stage::Alone(engine) => self.share_engine(alloc, engine, limit),
+            stage => {
+                self.hold(alloc, stage);
+                false
+            }
+        }
+    }
+
+    fn share_engine(&mut self, alloc: Global, engine: Engine<F>, limit: usize) -> bool {
+        match Shared::new(alloc, engine, limit) {
+            Ok(shared) => {
+                self.hold(alloc, Stage::Shared(shared));
+                true
+            }
+            Err(refused) => {
+                self.code = refused.fault.code();
+                self.hold(alloc, Stage::Alone(refused.engine));
+                false
+            }
+        }
+    }
+
+    fn add_seat(&mut self, seat: Result<Seat, Fault>) -> bool {
+        match seat {
+            Ok(seat) => {
+                self.code = MEMORY;
+                self.seats.push(seat).is_ok()
+            }
+            Err(fault) => {
+                self.code = fault.code();
+                false
+            }
+        }
+    }
+
+    fn take_seat(&mut self) -> bool {
+        let seat = match &mut self.stage {
+            Stage::Shared(shared) => shared.seat(),
+            _ => return false,
+        };
+        self.add_seat(seat)
+    }
+
+    fn take_seats(&mut self, count: usize) -> bool {
+        self.seats.truncate(0);
+        for _ in 0..count {
+            if !self.take_seat() {
+                return false;
+            }
+        }
+        true
+    }
+
+    /// Shares an engine over new files, for so many calls, with so many seats. The first sync after the
+    /// opening fails if that is said.
+    pub(crate) fn begin(
+        &mut self,
+        alloc: Global,
+        is_sync_refused: bool,
+        limit: usize,
+        count: usize,
+    ) -> bool {
+        self.hold(alloc, Stage::Files(F::fresh(alloc)));
+        self.open(alloc)
+            && self.arm(is_sync_refused)
+            && self.share(alloc, limit)
+            && self.take_seats(count)
+    }
+
+    /// Whether an engine over new files that has a key comes back with it if there is no memory for so many calls.
+    pub(crate) fn comes_back(&mut self, alloc: Global, limit: usize) -> bool {
+        self.hold(alloc, Stage::Files(F::fresh(alloc)));
+        self.open(alloc)
+            && self.puts(alloc)
+            && !self.share(alloc, limit)
+            && self.code == MEMORY
+            && self.keys() == Some(1)
+    }
+
+    fn puts(&mut self, alloc: Global) -> bool {
+        match &mut self.stage {
+            Stage::Alone(engine) => is_put(alloc, engine),
+            _ => false,
+        }
+    }
+
+    /// Asks by the seat of this number, which no story lacks. Writes without numbers aren't synced.
+    pub(crate) fn ask(&mut self, alloc: Global, seat: usize, ask: &Ask) -> Result<Receipt, Fault> {
+        let Some(seat) = self.seats.get_mut(seat) else {
+            return Err(Fault::Failed);
+        };
+        match &mut self.stage {
+            Stage::Shared(shared) => ask_by(alloc, shared, seat, ask),
+            _ => Err(Fault::Failed),
+        }
+    }
+
+    fn keep(&mut self, alloc: Global, engine: Engine<F>, trail: &[Recorded]) {
+        self.calls = trail.len();
+        self.hold(alloc, Stage::Alone(engine));
+    }
+
+    /// Hands the seats over.
+    pub(crate) fn hand_over(&mut self, alloc: Global) {
+        match mem::replace(&mut self.stage, Stage::Nothing) {
+            Stage::Shared(shared) => self.finish(alloc, shared),
+            stage => self.hold(alloc, stage),
+        }
+    }
+
+    fn finish(&mut self, alloc: Global, shared: Shared<F>) {
+        let seats = mem::replace(&mut self.seats, Vec::new(alloc));
+        match shared.finish(seats) {
+            Ok(Finished { engine, trail }) => {
+                self.refused = None;
+                self.keep(alloc, engine, &trail);
+            }
+            Err(
+                Unfinished {
+                    fault,
+                    engine,
+                    trail,
+                    seats,
+                },
+            ) => {
+                self.refused = Some((fault.code(), seats.len()));
+                self.keep(alloc, engine, &trail);
+            }
+        }
+    }
+
+    /// How many keys the engine holds, if it hasn't failed.
+    pub(crate) fn keys(&mut self) -> Option<usize> {
+        match &mut self.stage {
+            Stage::Alone(engine) => keys_in(engine),
+            _ => None,
+        }
+    }
+
+    fn crash(&mut self, alloc: Global) -> bool {
+        let Some(mut files) = self.take(alloc) else {
+            return false;
+        };
+        let is_crashed = files.crash_to_synced().is_ok();
+        self.hold(alloc, Stage::Files(files));
+        is_crashed
+    }
+
+    /// Whether the key k of group 1 has this value once a crash has left what was synced.
+    pub(crate) fn has_synced(&mut self, alloc: Global, wanted: Option<&[u8]>) -> bool {
+        if !self.crash(alloc) || !self.open(alloc) {
+            return false;
+        }
+        match &self.stage {
+            Stage::Alone(engine) => has_value(engine, wanted),
+            _ => false,
+        }
     }
 }

@@ -1,10 +1,10 @@
-//! Stories as rows of tables: calls of seats at a shared engine over new files, what each is told, and
+//! Stories as rows of tables: calls of seats at a shared engine over new files, what each returns, and
 //! what there is at the end.
 
 use crate::asked::{Ask, Told, is_told};
-use crate::seated::{Ended, Faulty, Seated, begin, end, hand_over, keys_in, open};
-use raft_log_engine::{Engine, Fault, FileSystem};
-use raft_shared::{Receipt, Recorded};
+use crate::seated::{Faulty, Seated};
+use raft_log_engine::Fault;
+use raft_shared::Receipt;
 use std::alloc::Global;
 use std::mem;
 
@@ -41,7 +41,7 @@ pub(crate) struct End {
     pub(crate) refusal: Option<u8>,
     /// How many calls the history has.
     pub(crate) calls: usize,
-    /// How many keys the engine holds, where it stands.
+    /// How many keys the engine holds, if it hasn't failed.
     pub(crate) keys: Option<usize>,
     /// The value at the key k of group 1, once a crash has left what was synced.
     pub(crate) synced: Option<&'static [u8]>,
@@ -70,11 +70,7 @@ fn is_so(step: &Step, answer: Result<Receipt, Fault>) -> bool {
 }
 
 // The place of the first step that comes to something else.
-fn wrong_step<F: FileSystem>(
-    alloc: Global,
-    seated: &mut Seated<F>,
-    steps: &[Step],
-) -> Option<usize> {
+fn wrong_step<F: Faulty>(alloc: Global, seated: &mut Seated<F>, steps: &[Step]) -> Option<usize> {
     for (place, step) in steps.iter().enumerate() {
         let answer = seated.ask(alloc, seat_of(step), ask_of(step));
         if !is_so(step, answer) {
@@ -84,28 +80,27 @@ fn wrong_step<F: FileSystem>(
     None
 }
 
-// Leaves the seats that are handed over. Answers whether the calls of another engine's hold.
+fn begins<F: Faulty>(alloc: Global, seated: &mut Seated<F>, story: &Story) -> bool {
+    seated.begin(alloc, story.is_sync_refused, story.limit, story.seats)
+}
+
+// Leaves the seats that are handed over: whether the calls of another engine's hold.
 fn choose_seats<F: Faulty>(
     alloc: Global,
     seated: &mut Seated<F>,
+    other: &mut Seated<F>,
     story: &Story,
-) -> Result<bool, Fault> {
+) -> bool {
     match &story.handed {
         Handed::First(count) => {
             seated.seats.truncate(*count);
-            Ok(true)
+            true
         }
         Handed::OfOther(steps) => {
-            let mut other: Seated<F> = begin(
-                alloc,
-                story.is_sync_refused,
-                story.limit,
-                story.seats,
-            )?;
-            let holds = wrong_step(alloc, &mut other, steps).is_none();
+            let is_played = begins(alloc, other, story)
+                && wrong_step(alloc, other, steps).is_none();
             mem::swap(&mut seated.seats, &mut other.seats);
-            end(other);
-            Ok(holds)
+            is_played
         }
     }
 }
@@ -119,64 +114,34 @@ fn is_refusal(refused: Option<(u8, usize)>, wanted: Option<u8>, handed: usize) -
     }
 }
 
-fn is_trail(trail: Vec<Recorded>, count: usize) -> bool {
-    trail.len() == count
-}
-
-fn is_value(value: Option<Vec<u8>>, wanted: Option<&[u8]>) -> bool {
-    match (&value, wanted) {
-        (Some(value), Some(wanted)) => value.as_slice() == wanted,
-        (None, None) => true,
-        _ => false,
-    }
-}
-
-// Whether the engine has so many keys, and once a crash has left what was synced this value at the
-// key k of group 1.
-fn has_so<F: Faulty>(alloc: Global, mut engine: Engine<F>, wanted: &End) -> Result<bool, Fault> {
-    let keys = keys_in(&mut engine);
-    let mut files = engine.give_up();
-    files.crash_to_synced()?;
-    let found = open(alloc, files)?;
-    let value = found.get(1, b"k");
-    found.give_up();
-    Ok(is_value(value?, wanted.synced) && keys == wanted.keys)
-}
-
-// The place of the first step that comes to something else, or of the end where one of the other
-// engine does.
-fn played<F: Faulty>(
-    alloc: Global,
-    seated: &mut Seated<F>,
-    story: &Story,
-) -> Result<Option<usize>, Fault> {
-    let wrong = wrong_step(alloc, seated, story.steps);
-    if wrong.is_some() || choose_seats(alloc, seated, story)? {
-        Ok(wrong)
-    } else {
-        Ok(Some(story.steps.len()))
-    }
+// Whether the seats are handed over as the story says, and the engine has so many keys, and once a crash
+// has left what was synced this value at the key k of group 1.
+fn ends_so<F: Faulty>(alloc: Global, seated: &mut Seated<F>, wanted: &End) -> bool {
+    let handed = seated.seats.len();
+    seated.hand_over(alloc);
+    seated.calls == wanted.calls
+        && is_refusal(seated.refused, wanted.refusal, handed)
+        && seated.keys() == wanted.keys
+        && seated.has_synced(alloc, wanted.synced)
 }
 
 /// The place of the first step that comes to something else; the end comes after all steps.
-pub(crate) fn wrong_place<F: Faulty>(alloc: Global, story: &Story) -> Result<Option<usize>, Fault> {
-    let mut seated: Seated<F> = begin(alloc, story.is_sync_refused, story.limit, story.seats)?;
-    let played = played(alloc, &mut seated, story);
-    let handed = seated.seats.len();
-    let Ended {
-        engine,
-        trail,
-        refused,
-    } = hand_over(seated);
-    let has_so = has_so(alloc, engine, &story.end);
-    let wrong = played?;
-    if wrong.is_some() {
-        return Ok(wrong);
+pub(crate) fn wrong_place<F: Faulty>(
+    alloc: Global,
+    seated: &mut Seated<F>,
+    other: &mut Seated<F>,
+    story: &Story,
+) -> Option<usize> {
+    if !begins(alloc, seated, story) {
+        return Some(0);
     }
-    let is_trail = is_trail(trail, story.end.calls);
-    if has_so? && is_trail && is_refusal(refused, story.end.refusal, handed) {
-        Ok(None)
+    let wrong = wrong_step(alloc, seated, story.steps);
+    let is_right = wrong.is_none()
+        && choose_seats(alloc, seated, other, story)
+        && ends_so(alloc, seated, &story.end);
+    if is_right || wrong.is_some() {
+        wrong
     } else {
-        Ok(Some(story.steps.len()))
+        Some(story.steps.len())
     }
 }

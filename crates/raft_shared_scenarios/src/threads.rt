@@ -1,9 +1,9 @@
 //! Threads over one engine, with a history and without.
 
 use crate::asked::put_of;
-use crate::seated::{Ended, Seated, begin, hand_over, last_keys, open};
+use crate::seated::{last_keys, open, share};
 use raft_log_engine::{Engine, Fault, FileSystem, MemoryFileSystem};
-use raft_shared::{Call, Recorded, Reply, Seat, Shared};
+use raft_shared::{Call, Finished, Recorded, Reply, Seat, Shared, Unfinished};
 use std::alloc::{AllocError, Global};
 use std::sync::{Arc, Mutex, Wait};
 use std::test::Fail;
@@ -33,16 +33,30 @@ trait Crew: Threads + Wait + Copy + Send + 'static {}
 
 impl<R: Threads + Wait + Copy + Send + 'static> Crew for R {}
 
+fn is_written(
+    rt: &impl Wait,
+    alloc: Global,
+    shared: &Mutex<Shared<MemoryFileSystem>>,
+    seat: &mut Seat,
+    key: u8,
+) -> bool {
+    let group = seat.number() as u64;
+    match put_of(alloc, group, &[key], &[key, key]) {
+        Ok(mut batch) => shared.lock(rt).write(seat, &mut batch, false).is_ok(),
+        Err(_fault) => false,
+    }
+}
+
 fn write(
     rt: &impl Wait,
     alloc: Global,
     shared: &Mutex<Shared<MemoryFileSystem>>,
     mut seat: Seat,
 ) -> Result<Seat, Fault> {
-    let group = seat.number() as u64;
     for key in 0..WRITES {
-        let mut batch = put_of(alloc, group, &[key], &[key, key])?;
-        shared.lock(rt).write(&mut seat, &mut batch, false)?;
+        if !is_written(rt, alloc, shared, &mut seat, key) {
+            return Err(Fault::Failed);
+        }
     }
     Ok(seat)
 }
@@ -74,30 +88,46 @@ fn join_writers<R: Threads>(
     Ok(seats)
 }
 
-// The history that threads make, once each seat has made its writes in a thread of its own.
-fn history<R: Crew>(rt: &R, alloc: Global) -> Result<Option<Vec<Recorded>>, Fault> {
-    let seated: Seated<MemoryFileSystem> = begin(alloc, false, LIMIT, SEATS)?;
-    let Seated { shared, seats } = seated;
-    let together = Arc::new(alloc, Mutex::new(shared))?;
-    let writers = start_writers(rt, alloc, &together, seats)?;
-    let seats = join_writers(rt, alloc, writers)?;
+// The seats, once each has made its writes in a thread of its own.
+fn seats_after<R: Crew>(
+    rt: &R,
+    alloc: Global,
+    together: &Together,
+    seats: Vec<Seat>,
+) -> Result<Vec<Seat>, Fault> {
+    join_writers(rt, alloc, start_writers(rt, alloc, together, seats)?)
+}
+
+// The history that threads make.
+fn history_of<R: Crew>(
+    rt: &R,
+    alloc: Global,
+    together: Together,
+    seats: Vec<Seat>,
+) -> Result<Option<Vec<Recorded>>, Fault> {
+    let seats = seats_after(rt, alloc, &together, seats)?;
     match Arc::into_inner(together) {
         Some(lock) => Ok(finish(lock.into_inner(), seats)),
         None => Ok(None),
     }
 }
 
-// The history, where each seat's receipts are its calls.
+fn history<R: Crew>(rt: &R, alloc: Global) -> Result<Option<Vec<Recorded>>, Fault> {
+    let (shared, seats) = share(alloc, MemoryFileSystem::new(alloc), LIMIT, SEATS)?;
+    history_of(rt, alloc, Arc::new(alloc, Mutex::new(shared))?, seats)
+}
+
+// The history, if each seat's receipts are its calls.
 fn finish<F: FileSystem + Drop>(shared: Shared<F>, seats: Vec<Seat>) -> Option<Vec<Recorded>> {
-    let Ended {
-        engine,
-        trail,
-        refused,
-    } = hand_over(Seated { shared, seats });
-    engine.give_up();
-    match refused {
-        None => Some(trail),
-        Some(_) => None,
+    match shared.finish(seats) {
+        Ok(Finished { engine, trail }) => {
+            engine.give_up();
+            Some(trail)
+        }
+        Err(Unfinished { engine, .. }) => {
+            engine.give_up();
+            None
+        }
     }
 }
 
@@ -117,19 +147,41 @@ fn writes_of(trail: &[Recorded], seat: usize) -> usize {
     count
 }
 
+fn are_of_each(trail: &[Recorded]) -> bool {
+    let mut are_of_each = trail.len() == 20;
+    for seat in 0..SEATS {
+        are_of_each = are_of_each && writes_of(trail, seat) == 10;
+    }
+    are_of_each
+}
+
+fn is_history(history: Result<Option<Vec<Recorded>>, Fault>) -> bool {
+    match history {
+        Ok(Some(trail)) => are_of_each(&trail),
+        Ok(None) => false,
+        Err(_fault) => false,
+    }
+}
+
 /// Two threads with a seat each make ten writes each to a group of their own: the history has twenty
 /// calls, ten of each seat, and each receipt is the call at its number.
 #[test]
 fn two_seats_one_history(rt: HostRuntime) -> Result<(), Fail> {
-    let Some(trail) = history(&rt, rt.alloc())? else {
-        return Err(Fail::new("sharing was not finished"));
-    };
-    let mut are_of_each = trail.len() == 20;
-    for seat in 0..SEATS {
-        are_of_each = are_of_each && writes_of(&trail, seat) == 10;
-    }
-    assert!(rt; are_of_each);
+    assert!(rt; is_history(history(&rt, rt.alloc())));
     Ok(())
+}
+
+fn is_put(
+    rt: &impl Wait,
+    alloc: Global,
+    engine: &Mutex<Engine<MemoryFileSystem>>,
+    group: u64,
+    key: u8,
+) -> bool {
+    match put_of(alloc, group, &[key], &[key, key]) {
+        Ok(mut batch) => engine.lock(rt).write(&mut batch, false).is_ok(),
+        Err(_fault) => false,
+    }
 }
 
 fn put(
@@ -139,8 +191,9 @@ fn put(
     group: u64,
 ) -> Result<(), Fault> {
     for key in 0..WRITES {
-        let mut batch = put_of(alloc, group, &[key], &[key, key])?;
-        engine.lock(rt).write(&mut batch, false)?;
+        if !is_put(rt, alloc, engine, group, key) {
+            return Err(Fault::Failed);
+        }
     }
     Ok(())
 }
@@ -167,10 +220,8 @@ fn join_putters<R: Threads>(rt: &R, putters: Vec<Putter>) -> Result<(), Fault> {
     Ok(())
 }
 
-// How many keys an engine without a history has, once threads have put theirs.
-fn keys_put<R: Crew>(rt: &R, alloc: Global) -> Result<Option<usize>, Fault> {
-    let engine = open(alloc, MemoryFileSystem::new(alloc))?;
-    let together = Arc::new(alloc, Mutex::new(engine))?;
+// How many keys the engine has once threads have put theirs.
+fn keys_after<R: Crew>(rt: &R, alloc: Global, together: Alone) -> Result<Option<usize>, Fault> {
     join_putters(rt, start_putters(rt, alloc, &together)?)?;
     match Arc::into_inner(together) {
         Some(lock) => Ok(last_keys(lock.into_inner())),
@@ -178,9 +229,21 @@ fn keys_put<R: Crew>(rt: &R, alloc: Global) -> Result<Option<usize>, Fault> {
     }
 }
 
+fn keys_put<R: Crew>(rt: &R, alloc: Global) -> Result<Option<usize>, Fault> {
+    let engine = open(alloc, MemoryFileSystem::new(alloc))?;
+    keys_after(rt, alloc, Arc::new(alloc, Mutex::new(engine))?)
+}
+
+fn are_forty(keys: Result<Option<usize>, Fault>) -> bool {
+    match keys {
+        Ok(keys) => keys == Some(40),
+        Err(_fault) => false,
+    }
+}
+
 /// Four threads that share an engine without a history put ten keys each: the image has forty.
 #[test]
 fn four_threads_one_engine(rt: HostRuntime) -> Result<(), Fail> {
-    assert!(rt; keys_put(&rt, rt.alloc())? == Some(40));
+    assert!(rt; are_forty(keys_put(&rt, rt.alloc())));
     Ok(())
 }

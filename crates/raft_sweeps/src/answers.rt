@@ -1,17 +1,12 @@
-//! What operations are answered where one call to the files fails, told from the operations done before.
+//! What operations come to if one call to the files fails, told from the operations done before.
 
 use raft_env::IoKind;
 use raft_records::Fault;
 use raft_test_rows::{
-    EMPTY, Left, Op, Outcome, State, after, are_new, count_below, fault_of, is_done, is_refusal,
-    value_of,
+    EMPTY, Op, Outcome, State, after, are_new, count_below, fault_of, is_done, is_refusal, value_of,
 };
 
-/// What a crash may leave of each log file.
-pub(crate) static LEFTS: [Left; 3] = [Left::All, Left::Synced, Left::Torn(7, 255)];
-
-// A look-up, a compaction or a write that acts once tells, where it is answered, what the operations
-// done before it leave.
+// A look-up, a compaction or a write that acts once shows what the operations done before it leave.
 fn tells(state: State, op: &Op, outcome: &Outcome) -> bool {
     match (op, outcome) {
         (Op::Get(group, key), Outcome::Value(Ok(Some(value)))) => {
@@ -30,8 +25,8 @@ fn tells(state: State, op: &Op, outcome: &Outcome) -> bool {
     }
 }
 
-// Whether an answer may come in this state: by the failing call, or behind it by a failed engine.
-fn is_answer(state: State, op: &Op, outcome: &Outcome, kind: IoKind, refused: bool) -> bool {
+// Whether an operation may come to this in this state: by the failing call, or after it by a failed engine.
+fn is_told(state: State, op: &Op, outcome: &Outcome, kind: IoKind, refused: bool) -> bool {
     match fault_of(outcome) {
         Some(Fault::Failed) => refused,
         Some(fault) => is_refusal(fault, kind) && !refused,
@@ -39,14 +34,14 @@ fn is_answer(state: State, op: &Op, outcome: &Outcome, kind: IoKind, refused: bo
     }
 }
 
-/// Each operation is answered as the ones done before it tell. One alone fails by the files, and those after it
-/// by a failed engine, if at all. Whether one fails, or nothing where an answer is wrong.
-pub(crate) fn failed_by(ops: &[Op], outcomes: &[Outcome], kind: IoKind) -> Option<bool> {
+/// Whether each operation comes to what those done before it tell. Only one fails by the files, and those after it by a
+/// failed engine, if at all.
+pub(crate) fn are_told(ops: &[Op], outcomes: &[Outcome], kind: IoKind) -> bool {
     let mut state = EMPTY;
     let mut refused = false;
     for (op, outcome) in ops.iter().zip(outcomes.iter()) {
-        if !is_answer(state, op, outcome, kind, refused) {
-            return None;
+        if !is_told(state, op, outcome, kind, refused) {
+            return false;
         }
         if is_done(outcome) {
             state = after(state, op);
@@ -54,19 +49,21 @@ pub(crate) fn failed_by(ops: &[Op], outcomes: &[Outcome], kind: IoKind) -> Optio
             refused = true;
         }
     }
-    Some(refused)
+    true
 }
 
-/// Whether the outcomes up to the first failed one are those that were wanted, but for what purges answer, which goes
-/// by how many files were begun.
+// What a purge returns goes by how many files were begun.
+fn is_as_wanted(outcome: &Outcome, wanted: &Outcome) -> bool {
+    matches!(outcome, Outcome::Dropped(_) | Outcome::ToCompact(_)) || *outcome == *wanted
+}
+
+/// Whether the outcomes up to the first failed one are those that were wanted, except those of purges.
 pub(crate) fn begin_as_wanted(outcomes: &[Outcome], wanted: &[Outcome]) -> bool {
     for (outcome, wanted) in outcomes.iter().zip(wanted.iter()) {
         if !is_done(outcome) {
             return true;
         }
-        let of_purge = matches!(outcome, Outcome::Dropped(_) | Outcome::ToCompact(_));
-        let is_as_wanted = of_purge || *outcome == *wanted;
-        if !is_as_wanted {
+        if !is_as_wanted(outcome, wanted) {
             return false;
         }
     }

@@ -1,12 +1,12 @@
-//! Forks in which a call of storage fails.
+//! Forks in which a call of storage fails: the next one is done, or refused if the mark is there.
 
 use raft_env::{FileSystem, IoKind};
-use raft_fork::{CopyDetails, fork};
+use raft_fork::{CopyDetails, FORK_MARK, fork};
 use raft_memory::{FsCall, MemoryFileSystem};
 use raft_records::{Fault, Fresh};
 use raft_rows::store_in;
 use raft_settings::read;
-use raft_test_rows::{Failing, Faulty};
+use raft_test_rows::{Config, Failing, Faulty};
 use std::alloc::Global;
 use std::test::Fail;
 
@@ -20,18 +20,7 @@ const SOURCE: [(&str, usize); 3] = [
 /// The settings of their log.
 const SETTINGS: &str = "dir = \"a\"\nenable-log-recycle = false\n";
 
-/// Makes these files.
-pub(crate) fn make_source<F: FileSystem>(alloc: Global, files: &mut F) -> Result<(), Fault> {
-    for (path, len) in &SOURCE {
-        let bytes = vec![in alloc; 7; *len]?;
-        if let Err(fault) = store_in(files, "a", path, &[&bytes]) {
-            return Err(fault.with_path(alloc, "a"));
-        }
-    }
-    Ok(())
-}
-
-/// A sort of calls, and how many of them a fork of these three files makes, where that follows of what a fork is.
+/// A sort of calls, and how many of them a fork of these three files makes, if that follows from what a fork is.
 struct Sort(FsCall, Option<u64>);
 
 static SORTS: [Sort; 11] = [
@@ -55,31 +44,92 @@ const MANY: u64 = 50;
 
 const KINDS: [IoKind; 3] = [IoKind::NoSpace, IoKind::NotFound, IoKind::Other];
 
-/// How many files a fork of these to this folder copies.
-pub(crate) fn fork_to<F: FileSystem>(
-    alloc: Global,
-    files: &mut F,
-    target: &str,
-) -> Result<usize, Fault> {
-    let source = read(alloc, SETTINGS)?;
-    let details = fork(alloc, &source, files, target)?;
-    Ok(details.copied.len())
+/// The call that stops a fork of three files, whether the mark is in the target then, and how many
+/// log files are.
+struct Stop(FsCall, u64, bool, usize);
+
+static STOPS: [Stop; 14] = [
+    Stop(FsCall::Create, 1, false, 0),
+    Stop(FsCall::Create, 2, true, 0),
+    Stop(FsCall::NewWriter, 1, true, 1),
+    Stop(FsCall::Write, 1, true, 1),
+    Stop(FsCall::Sync, 1, true, 1),
+    Stop(FsCall::Create, 3, true, 1),
+    Stop(FsCall::NewWriter, 2, true, 2),
+    Stop(FsCall::Write, 2, true, 2),
+    Stop(FsCall::Write, 3, true, 2),
+    Stop(FsCall::Sync, 2, true, 2),
+    Stop(FsCall::Create, 4, true, 2),
+    Stop(FsCall::NewWriter, 3, true, 3),
+    Stop(FsCall::Sync, 3, true, 3),
+    Stop(FsCall::Delete, 1, true, 3),
+];
+
+/// What a fork came to.
+#[derive(Clone, Copy, PartialEq)]
+enum Made {
+    /// It copied all files.
+    All,
+    /// A call of storage failed in this way.
+    Failed(IoKind),
+    /// The mark was in its way.
+    Marked,
+    /// There was no memory.
+    NoMemory,
+    Other,
 }
 
-// Whether a fork of these files is done, or else failed as the call did, and a fork to another
-// folder is done then; none where it came to something else.
-fn is_done<F: Faulty>(alloc: Global, files: &mut F, kind: IoKind) -> Result<Option<bool>, Fault> {
-    match fork_to(alloc, files, "b") {
-        Ok(_) => Ok(Some(true)),
-        Err(Fault::Io(by, _)) if by == kind => {
-            let again = fork_to(alloc, files, "c")?;
-            Ok(if again == SOURCE.len() {
-                Some(false)
-            } else {
-                None
-            })
+fn made_of(forked: Result<CopyDetails, Fault>) -> Made {
+    match &forked {
+        Ok(details) if details.copied.len() == SOURCE.len() => Made::All,
+        Err(Fault::Io(kind, _)) => Made::Failed(*kind),
+        Err(Fault::InvalidArgument(_)) => Made::Marked,
+        Err(Fault::Memory) => Made::NoMemory,
+        _ => Made::Other,
+    }
+}
+
+fn fork_to<F: FileSystem>(alloc: Global, source: &Config, files: &mut F, target: &str) -> Made {
+    made_of(fork(alloc, source, files, target))
+}
+
+fn is_stored<F: FileSystem>(alloc: Global, files: &mut F, path: &str, len: usize) -> bool {
+    match vec![in alloc; 7; len] {
+        Ok(bytes) => store_in(files, "a", path, &[&bytes]).is_ok(),
+        Err(_) => false,
+    }
+}
+
+// Makes the source in new files: whether there was memory.
+fn renew<F: Faulty>(alloc: Global, files: &mut F) -> bool {
+    *files = F::fresh(alloc);
+    for (path, len) in &SOURCE {
+        if !is_stored(alloc, files, path, *len) {
+            return false;
         }
-        Err(_) => Ok(None),
+    }
+    true
+}
+
+fn begin<F: Faulty>(alloc: Global, files: &mut F, call: FsCall, nth: u64, kind: IoKind) -> bool {
+    renew(alloc, files) && files.fail(Failing::Nth(call, nth, kind)).is_ok()
+}
+
+// Whether a fork is done, or else failed as the call did, and a fork to another folder is done then:
+// nothing if it came to something else.
+fn is_done<F: FileSystem>(
+    alloc: Global,
+    source: &Config,
+    files: &mut F,
+    kind: IoKind,
+) -> Option<bool> {
+    let made = fork_to(alloc, source, files, "b");
+    if made == Made::All {
+        Some(true)
+    } else if made == Made::Failed(kind) && fork_to(alloc, source, files, "c") == Made::All {
+        Some(false)
+    } else {
+        None
     }
 }
 
@@ -93,50 +143,127 @@ fn is_count(count: u64, sort: &Sort) -> bool {
 // Whether as many calls of the sort as it says fail a fork in this way.
 fn is_as_said<F: Faulty>(
     alloc: Global,
+    source: &Config,
     files: &mut F,
     sort: &Sort,
     kind: IoKind,
-) -> Result<bool, Fault> {
+) -> bool {
     for nth in 1..MANY {
-        *files = F::fresh(alloc);
-        make_source(alloc, files)?;
-        files.fail(Failing::Nth(sort.0, nth, kind))?;
-        match is_done(alloc, files, kind)? {
-            Some(true) => return Ok(is_count(nth - 1, sort)),
+        if !begin(alloc, files, sort.0, nth, kind) {
+            return false;
+        }
+        match is_done(alloc, source, files, kind) {
+            Some(true) => return is_count(nth - 1, sort),
             Some(false) => {}
-            None => return Ok(false),
+            None => return false,
         }
     }
-    Ok(false)
+    false
+}
+
+fn wrong_sort<F: Faulty>(alloc: Global, source: &Config, files: &mut F) -> Option<usize> {
+    for (place, sort) in SORTS.iter().enumerate() {
+        for kind in &KINDS {
+            if !is_as_said(alloc, source, files, sort, *kind) {
+                return Some(place);
+            }
+        }
+    }
+    None
+}
+
+fn have_mark(names: &[String]) -> bool {
+    for name in names {
+        if name.as_str() == FORK_MARK {
+            return true;
+        }
+    }
+    false
+}
+
+// Whether the target has the mark, and how many log files.
+fn target_of<F: FileSystem>(files: &mut F) -> Option<(bool, usize)> {
+    match files.list("b") {
+        Ok(names) => {
+            let marked = have_mark(&names);
+            Some((marked, names.len().saturating_sub(usize::from(marked))))
+        }
+        Err(_fault) => None,
+    }
+}
+
+// Whether the mark and so many log files are there after a fork that stopped, and the next fork to the same folder is
+// refused if the mark is.
+fn is_left<F: Faulty>(alloc: Global, source: &Config, files: &mut F, stop: &Stop) -> bool {
+    let is_stopped = begin(alloc, files, stop.0, stop.1, IoKind::Other)
+        && fork_to(alloc, source, files, "b") == Made::Failed(IoKind::Other);
+    match target_of(files) {
+        Some((marked, logs)) => {
+            let is_refused = fork_to(alloc, source, files, "b") == Made::Marked;
+            is_stopped && marked == stop.2 && logs == stop.3 && is_refused == marked
+        }
+        None => false,
+    }
+}
+
+fn wrong_stop<F: Faulty>(alloc: Global, source: &Config, files: &mut F) -> Option<usize> {
+    for (place, stop) in STOPS.iter().enumerate() {
+        if !is_left(alloc, source, files, stop) {
+            return Some(place);
+        }
+    }
+    None
+}
+
+fn wrong_fork<F: Faulty>(
+    alloc: Global,
+    source: &Config,
+    files: &mut F,
+) -> Option<(&'static str, usize)> {
+    match wrong_sort(alloc, source, files) {
+        Some(place) => Some(("sorts", place)),
+        None => match wrong_stop(alloc, source, files) {
+            Some(place) => Some(("stops", place)),
+            None => None,
+        },
+    }
+}
+
+// The table and the row in it of which something is wrong.
+fn wrong_row<F: Faulty>(alloc: Global, mut files: F) -> Option<(&'static str, usize)> {
+    match read(alloc, SETTINGS) {
+        Ok(source) => wrong_fork(alloc, &source, &mut files),
+        Err(_fault) => Some(("settings", 0)),
+    }
 }
 
 #[test]
 fn each_failing_call_fails_the_fork(rt: HostRuntime) -> Result<(), Fail> {
-    let mut files = MemoryFileSystem::new(rt.alloc());
-    for (place, sort) in SORTS.iter().enumerate() {
-        for kind in &KINDS {
-            let held = is_as_said(rt.alloc(), &mut files, sort, *kind)?;
-            assert!(rt; held, "row {place}, {kind:?}");
-        }
+    match wrong_row(rt.alloc(), MemoryFileSystem::new(rt.alloc())) {
+        None => Ok(()),
+        Some((table, place)) => Err(Fail::new(format_args!("{table}, row {place}"))),
     }
-    Ok(())
+}
+
+fn is_made_again<F: Faulty>(alloc: Global, source: &Config, files: &mut F) -> bool {
+    let made = fork_to(alloc, source, files, "b");
+    made == Made::All || (made == Made::NoMemory && fork_to(alloc, source, files, "c") == Made::All)
 }
 
 // Whether a fork is done; with the Nth request for memory refused (`rt try --test --fail-alloc N`)
 // it says so, and one to another folder is done.
-fn is_made<F: Faulty>(alloc: Global) -> Result<bool, Fault> {
-    let mut files = F::fresh(alloc);
-    make_source(alloc, &mut files)?;
-    let copied = match fork_to(alloc, &mut files, "b") {
-        Err(Fault::Memory) => fork_to(alloc, &mut files, "c")?,
-        answer => answer?,
-    };
-    Ok(copied == SOURCE.len())
+fn is_made<F: Faulty>(alloc: Global, mut files: F) -> Result<bool, Fault> {
+    let source = read(alloc, SETTINGS)?;
+    if renew(alloc, &mut files) {
+        Ok(is_made_again(alloc, &source, &mut files))
+    } else {
+        Err(Fault::Memory)
+    }
 }
 
 #[test]
 fn a_fork_without_memory_is_made_again(rt: HostRuntime) -> Result<(), Fail> {
-    assert!(rt; is_made::<MemoryFileSystem>(rt.alloc())?);
+    assert!(rt; is_made(rt.alloc(), MemoryFileSystem::new(rt.alloc()))?);
     Ok(())
 }
 

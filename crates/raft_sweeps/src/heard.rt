@@ -1,35 +1,50 @@
-//! What a listener hears of the calls of an engine, in their order.
+//! What a listener hears of the calls of an engine, and the files that it keeps from purges.
 
-use raft_base::{FileBlockHandle, FileId};
+use raft_base::{FileBlockHandle, FileId, FileSeq, LogQueue};
 use raft_env::{FileSystem, IoKind};
-use raft_listeners::{EventListener, EventSink, Listeners};
+use raft_listeners::{EventListener, FileKeeper, Listeners};
 use raft_memory::{FsCall, MemoryFileSystem};
 use raft_records::{Command, EntryIndex, Fault, Fresh, LogBatch, ReadableSize};
-use raft_rows::{Row, rows_hold};
-use raft_test_rows::{Config, Engine};
+use raft_test_rows::{Config, Engine, Failing, Faulty, Held};
 use std::alloc::Global;
 use std::sync::Arc;
 use std::sync::atomic::{AtomicU64, Ordering};
 use std::test::Fail;
 
-/// Notes a digit for each call: 1 for a new log file, 2 for an append, 3 for an application, 4 for
-/// dropped files.
-#[derive(Drop)]
-struct Counting {
-    heard: Arc<AtomicU64>,
+/// How a number grows by a call, and a file that a listener keeps.
+#[derive(Clone, Copy)]
+enum Ear {
+    /// A digit more for each call: 1 for a new log file, 2 for an append, 3 for an application, 4 for
+    /// dropped files.
+    Digits,
+    /// 1,000 more for an append, and 1 for an application.
+    Counts(Option<FileSeq>),
 }
 
-impl Counting {
-    fn note(&self, digit: u64) {
-        let before = self.heard.load(Ordering::SeqCst);
-        self.heard.store(
-            before.saturating_mul(10).saturating_add(digit),
-            Ordering::SeqCst,
-        );
+fn after_call(before: u64, ear: Ear, digit: u64) -> u64 {
+    match (ear, digit) {
+        (Ear::Digits, _) => before.saturating_mul(10).saturating_add(digit),
+        (Ear::Counts(_), 2) => before.saturating_add(1000),
+        (Ear::Counts(_), 3) => before.saturating_add(1),
+        _ => before,
     }
 }
 
-impl EventListener for Counting {
+#[derive(Drop)]
+struct Noting {
+    ear: Ear,
+    heard: Arc<AtomicU64>,
+}
+
+impl Noting {
+    fn note(&self, digit: u64) {
+        let before = self.heard.load(Ordering::SeqCst);
+        self.heard
+            .store(after_call(before, self.ear, digit), Ordering::SeqCst);
+    }
+}
+
+impl EventListener for Noting {
     fn post_new_log_file(&mut self, _file_id: FileId) {
         self.note(1);
     }
@@ -40,6 +55,13 @@ impl EventListener for Counting {
 
     fn post_apply_memtables(&mut self, _file_id: FileId) {
         self.note(3);
+    }
+
+    fn first_file_not_ready_for_purge(&self, queue: LogQueue) -> Option<FileSeq> {
+        match (queue, self.ear) {
+            (LogQueue::Append, Ear::Counts(keeps)) => keeps,
+            _ => None,
+        }
     }
 
     fn post_purge(&mut self, _file_id: FileId) {
@@ -59,82 +81,199 @@ enum Step {
     /// An entry, and the compaction of its group.
     Entry,
     Compact,
-    /// A purge of all files in which nothing stands.
+    /// A purge of all files in which nothing is.
     Purge,
     /// A rewriting of the Append queue, and of the Rewrite queue.
     Rewrite,
     Renew,
     /// A write that removes the group of a put.
     Clean,
+    /// Writes of 50 entries of each of three groups, and of one of each of 47 others; the former are 10 bytes long, the
+    /// latter 1 KB.
+    WriteMany,
+    /// A purge by watermarks.
+    Expire,
 }
 
-/// The target size of files, which writes of a file find no space, counted from 1, what is done, and
-/// what is heard of it.
-struct Heard(u64, &'static [u64], &'static [Step], u64);
+/// The target size of files, which writes of a file find no space, counted from 1, what is done, how it is heard, what is
+/// heard of it, and, if that is asked, with which file the Append queue begins then.
+struct Heard(
+    u64,
+    &'static [u64],
+    &'static [Step],
+    Ear,
+    u64,
+    Option<FileSeq>,
+);
 
-static CALLS: [Heard; 15] = [
+/// The first purge writes what few entries others have again, the tenth those of the three groups, for which each purge
+/// asks: 197 records and two.
+const TEN_PURGES: &[Step] = &[
+    Step::WriteMany,
+    Step::Expire,
+    Step::Expire,
+    Step::Expire,
+    Step::Expire,
+    Step::Expire,
+    Step::Expire,
+    Step::Expire,
+    Step::Expire,
+    Step::Expire,
+    Step::Expire,
+];
+
+const KEEPS_NONE: Ear = Ear::Counts(None);
+
+const KEEPS_1: Ear = Ear::Counts(Some(1));
+
+const KEEPS_20: Ear = Ear::Counts(Some(20));
+
+static CALLS: [Heard; 18] = [
     // An opening: the first file of each queue.
-    Heard(1024, &[], &[], 11),
-    Heard(1024, &[], &[Step::Put, Step::Put], 112_323),
-    Heard(1024, &[], &[Step::Nothing], 11),
+    Heard(1024, &[], &[], Ear::Digits, 11, None),
+    Heard(
+        1024,
+        &[],
+        &[Step::Put, Step::Put],
+        Ear::Digits,
+        112_323,
+        None,
+    ),
+    Heard(1024, &[], &[Step::Nothing], Ear::Digits, 11, None),
     // The second time its number is old, and nothing is written.
-    Heard(1024, &[], &[Step::Once, Step::Once], 1_123),
-    Heard(1024, &[], &[Step::Group], 112_323),
-    Heard(1024, &[], &[Step::Compact], 11),
-    Heard(1024, &[], &[Step::Entry, Step::Compact], 112_323),
+    Heard(
+        1024,
+        &[],
+        &[Step::Once, Step::Once],
+        Ear::Digits,
+        1_123,
+        None,
+    ),
+    Heard(1024, &[], &[Step::Group], Ear::Digits, 112_323, None),
+    Heard(1024, &[], &[Step::Compact], Ear::Digits, 11, None),
+    Heard(
+        1024,
+        &[],
+        &[Step::Entry, Step::Compact],
+        Ear::Digits,
+        112_323,
+        None,
+    ),
     // Each queue goes on, and both lose a file, or the Rewrite queue alone.
-    Heard(1024, &[], &[Step::Purge], 111_144),
-    Heard(1024, &[], &[Step::Put, Step::Purge], 1_123_114),
-    // What stands in a file is written again, or all of the Rewrite queue: its record, as a put's, is
+    Heard(1024, &[], &[Step::Purge], Ear::Digits, 111_144, None),
+    Heard(
+        1024,
+        &[],
+        &[Step::Put, Step::Purge],
+        Ear::Digits,
+        1_123_114,
+        None,
+    ),
+    // What is in a file is written again, or all of the Rewrite queue: its record, as a put's, is
     // heard before a new file of the Append queue, and that before the file that left.
-    Heard(1024, &[], &[Step::Put, Step::Rewrite], 11_232_314),
+    Heard(
+        1024,
+        &[],
+        &[Step::Put, Step::Rewrite],
+        Ear::Digits,
+        11_232_314,
+        None,
+    ),
     Heard(
         1024,
         &[],
         &[Step::Put, Step::Rewrite, Step::Renew],
+        Ear::Digits,
         112_323_141_234,
+        None,
     ),
     // A clean is owed once the Rewrite queue may have a batch: its mark is a record.
     Heard(
         1024,
         &[],
         &[Step::Put, Step::Rewrite, Step::Clean, Step::Purge],
+        Ear::Digits,
         1_123_231_423_123_144,
+        None,
     ),
     // Each file is full with its header.
-    Heard(1, &[], &[Step::Put, Step::Group], 11_123_123_123),
+    Heard(
+        1,
+        &[],
+        &[Step::Put, Step::Group],
+        Ear::Digits,
+        11_123_123_123,
+        None,
+    ),
     // Two headers are written before. The first attempt finds no space, and then, with the header of
     // the next file between them, both.
-    Heard(1024, &[3], &[Step::Put], 11_123),
-    Heard(1024, &[3, 5], &[Step::Put, Step::Put], 111_123),
+    Heard(1024, &[3], &[Step::Put], Ear::Digits, 11_123, None),
+    Heard(
+        1024,
+        &[3, 5],
+        &[Step::Put, Step::Put],
+        Ear::Digits,
+        111_123,
+        None,
+    ),
+    Heard(1024, &[], TEN_PURGES, KEEPS_NONE, 199_199, Some(39)),
+    Heard(1024, &[], TEN_PURGES, KEEPS_1, 199_199, Some(1)),
+    Heard(1024, &[], TEN_PURGES, KEEPS_20, 199_199, Some(20)),
 ];
 
 fn put(alloc: Global, batch: &mut LogBatch, key: u8) -> Result<(), Fault> {
     batch.put(1, vec![in alloc; key]?, vec![in alloc; 8]?)
 }
 
-fn add_entry(alloc: Global, batch: &mut LogBatch) -> Result<(), Fault> {
-    let index = EntryIndex {
-        index: 1,
+fn add_entry(
+    alloc: Global,
+    batch: &mut LogBatch,
+    group: u64,
+    index: u64,
+    len: usize,
+) -> Result<(), Fault> {
+    let entry = EntryIndex {
+        index,
         entries: None,
         entry_offset: 0,
         entry_len: 0,
         lz4: false,
     };
-    let bytes = vec![in alloc; vec![in alloc; 7]?]?;
-    batch.add_raw_entries(2, vec![in alloc; index]?, bytes)
+    let bytes = vec![in alloc; vec![in alloc; b'x'; len]?]?;
+    batch.add_raw_entries(group, vec![in alloc; entry]?, bytes)
 }
 
 // What a step writes, if it is no group.
-fn batch_of(alloc: Global, step: Step) -> Result<LogBatch, Fault> {
-    let mut batch = LogBatch::new(alloc);
+fn fill(alloc: Global, batch: &mut LogBatch, step: Step) -> Result<(), Fault> {
     match step {
-        Step::Put | Step::Once => put(alloc, &mut batch, 7)?,
-        Step::Entry => add_entry(alloc, &mut batch)?,
-        Step::Clean => batch.add_command(1, Command::Clean)?,
-        _ => {}
+        Step::Put | Step::Once => put(alloc, batch, 7),
+        Step::Entry => add_entry(alloc, batch, 2, 1, 1),
+        Step::Clean => batch.add_command(1, Command::Clean),
+        _ => Ok(()),
     }
-    Ok(batch)
+}
+
+fn is_written<F: FileSystem, L: FileKeeper>(
+    alloc: Global,
+    engine: &mut Engine<F>,
+    listeners: &mut L,
+    step: Step,
+) -> bool {
+    let mut batch = LogBatch::new(alloc);
+    let is_filled = fill(alloc, &mut batch, step).is_ok();
+    match step {
+        Step::Once => {
+            let numbers = &[(1, 1)];
+            is_filled
+                && engine
+                    .write_once_with_listeners(&mut batch, numbers, true, listeners)
+                    .is_ok()
+        }
+        _ => is_filled
+            && engine
+                .write_with_listeners(&mut batch, true, listeners)
+                .is_ok(),
+    }
 }
 
 fn two_batches(alloc: Global) -> Result<Vec<LogBatch>, Fault> {
@@ -147,88 +286,206 @@ fn two_batches(alloc: Global) -> Result<Vec<LogBatch>, Fault> {
     Ok(batches)
 }
 
-fn call<F: FileSystem, L: EventSink>(
+fn is_group_written<F: FileSystem, L: FileKeeper>(
+    alloc: Global,
+    engine: &mut Engine<F>,
+    listeners: &mut L,
+) -> bool {
+    match two_batches(alloc) {
+        Ok(mut group) => {
+            engine
+                .write_group_with_listeners(&mut group, &[true, false], listeners)
+                .is_ok()
+        }
+        Err(_fault) => false,
+    }
+}
+
+fn is_entry_written<F: FileSystem, L: FileKeeper>(
+    alloc: Global,
+    engine: &mut Engine<F>,
+    listeners: &mut L,
+    group: u64,
+    index: u64,
+) -> bool {
+    let len = if group <= 3 { 10 } else { 1024 };
+    let mut batch = LogBatch::new(alloc);
+    add_entry(alloc, &mut batch, group, index, len).is_ok()
+        && engine
+            .write_with_listeners(&mut batch, false, listeners)
+            .is_ok()
+}
+
+fn are_many_written<F: FileSystem, L: FileKeeper>(
+    alloc: Global,
+    engine: &mut Engine<F>,
+    listeners: &mut L,
+) -> bool {
+    for group in 1..51_u64 {
+        let end = if group <= 3 { 51 } else { 2_u64 };
+        for index in 1..end {
+            if !is_entry_written(alloc, engine, listeners, group, index) {
+                return false;
+            }
+        }
+    }
+    true
+}
+
+fn asks_for_three<F: FileSystem, L: FileKeeper>(engine: &mut Engine<F>, listeners: &mut L) -> bool {
+    match engine.purge_expired_files_with_listeners(listeners) {
+        Ok(groups) => groups.as_slice() == [1, 2, 3].as_slice(),
+        Err(_fault) => false,
+    }
+}
+
+// Of each call what is heard counts, and of the purges by watermarks which groups they ask for.
+fn call<F: FileSystem, L: FileKeeper>(
+    alloc: Global,
     engine: &mut Engine<F>,
     listeners: &mut L,
     step: Step,
-    batch: &mut LogBatch,
-    group: &mut [LogBatch],
-) -> Result<usize, Fault> {
+) -> bool {
     match step {
-        Step::Once => engine.write_once_with_listeners(batch, &[(1, 1)], true, listeners),
-        Step::Group => {
-            engine.write_group_with_listeners(group, &[true, false], listeners)?;
-            Ok(0)
+        Step::Group => is_group_written(alloc, engine, listeners),
+        Step::Compact => engine.compact_to_with_listeners(2, 9, listeners).is_ok(),
+        Step::Purge => engine
+            .must_purge_all_stale_with_listeners(listeners)
+            .is_ok(),
+        Step::Rewrite => {
+            engine
+                .must_rewrite_append_queue_with_listeners(None, None, listeners)
+                .is_ok()
         }
-        Step::Compact => {
-            engine.compact_to_with_listeners(2, 9, listeners)?;
-            Ok(0)
-        }
-        Step::Purge => engine.must_purge_all_stale_with_listeners(listeners),
-        Step::Rewrite => engine.must_rewrite_append_queue_with_listeners(None, None, listeners),
-        Step::Renew => engine.must_rewrite_rewrite_queue_with_listeners(listeners),
-        _ => engine.write_with_listeners(batch, true, listeners),
+        Step::Renew => engine
+            .must_rewrite_rewrite_queue_with_listeners(listeners)
+            .is_ok(),
+        Step::WriteMany => are_many_written(alloc, engine, listeners),
+        Step::Expire => asks_for_three(engine, listeners),
+        _ => is_written(alloc, engine, listeners, step),
     }
 }
 
-// Of each call what is heard counts, and not its answer.
-fn call_each<F: FileSystem, L: EventSink>(
+// Whether each call is done, or the row has writes that find no space; and the Append queue begins with its file then.
+fn are_called<F: FileSystem, L: FileKeeper>(
     alloc: Global,
     engine: &mut Engine<F>,
     listeners: &mut L,
-    steps: &[Step],
-) -> Result<(), Fault> {
-    for step in steps {
-        let mut batch = batch_of(alloc, *step)?;
-        let mut group = two_batches(alloc)?;
-        let _ = call(engine, listeners, *step, &mut batch, &mut group);
+    row: &Heard,
+) -> bool {
+    for step in row.2 {
+        if !call(alloc, engine, listeners, *step) && row.1.is_empty() {
+            return false;
+        }
     }
-    Ok(())
+    match row.5 {
+        Some(first) => engine.file_spans().append.0 == first,
+        None => true,
+    }
 }
 
-fn play<F: FileSystem + Drop, L: EventSink>(
-    alloc: Global,
-    row: &Heard,
-    files: F,
-    listeners: &mut L,
-) -> Result<(), Fault> {
+fn settings(alloc: Global, row: &Heard) -> Config {
     let mut config = Config::fresh(alloc);
     config.target_file_size = ReadableSize(row.0);
-    let mut engine = Engine::open_in_order_with_listeners(alloc, config, files, listeners)?;
-    let called = call_each(alloc, &mut engine, listeners, row.2);
-    engine.give_up();
-    called
+    if row.5.is_some() {
+        config.purge_threshold = ReadableSize(10 * 1024);
+    }
+    config
 }
 
-fn heard_over<F: FileSystem + Drop>(alloc: Global, row: &Heard, files: F) -> Result<u64, Fault> {
-    let heard = Arc::new(alloc, AtomicU64::new(0))?;
-    let counting = Counting {
-        heard: Arc::try_clone(&heard)?,
-    };
-    let mut given: Vec<Box<dyn EventListener + Send>> = Vec::new(alloc);
-    given.push(Box::new(alloc, counting)?)?;
-    let mut listeners = Listeners::new(alloc, given);
-    play(alloc, row, files, &mut listeners)?;
-    Ok(heard.load(Ordering::SeqCst))
+fn open<F: Faulty, L: FileKeeper>(
+    alloc: Global,
+    held: &mut Held<F>,
+    listeners: &mut L,
+    row: &Heard,
+) {
+    if let Some(files) = held.take() {
+        let config = settings(alloc, row);
+        match Engine::open_in_order_with_listeners(alloc, config, files, listeners) {
+            Ok(engine) => held.hold(Held::Engine(engine)),
+            Err(refused) => held.hold(Held::Refused(refused)),
+        }
+    }
 }
 
-fn heard_of(alloc: Global, row: &Heard) -> Result<u64, Fault> {
-    let mut files = MemoryFileSystem::new(alloc);
+fn arm<F: Faulty>(alloc: Global, held: &mut Held<F>, row: &Heard) {
+    held.renew(alloc);
     for nth in row.1 {
-        files.refuse(FsCall::Write, *nth, IoKind::NoSpace)?;
+        held.fail(Failing::Nth(FsCall::Write, *nth, IoKind::NoSpace));
     }
-    heard_over(alloc, row, files)
 }
 
-impl Row for Heard {
-    type State = ();
-
-    fn holds(&self, alloc: Global, _: &mut ()) -> Result<bool, Fault> {
-        Ok(heard_of(alloc, self)? == self.3)
+fn play<F: Faulty, L: FileKeeper>(
+    alloc: Global,
+    held: &mut Held<F>,
+    listeners: &mut L,
+    row: &Heard,
+) -> bool {
+    arm(alloc, held, row);
+    open(alloc, held, listeners, row);
+    match held {
+        Held::Engine(engine) => are_called(alloc, engine, listeners, row),
+        _ => false,
     }
+}
+
+fn listeners_of(alloc: Global, noting: Noting) -> Result<Listeners, Fault> {
+    let mut given: Vec<Box<dyn EventListener + Send>> = Vec::new(alloc);
+    given.push(Box::new(alloc, noting)?)?;
+    Ok(Listeners::new(alloc, given))
+}
+
+fn listeners_at(alloc: Global, ear: Ear, heard: &Arc<AtomicU64>) -> Result<Listeners, Fault> {
+    let heard = Arc::try_clone(heard)?;
+    listeners_of(alloc, Noting { ear, heard })
+}
+
+fn is_heard<F: Faulty>(
+    alloc: Global,
+    held: &mut Held<F>,
+    heard: &Arc<AtomicU64>,
+    row: &Heard,
+) -> bool {
+    heard.store(0, Ordering::SeqCst);
+    match listeners_at(alloc, row.3, heard) {
+        Ok(mut listeners) => {
+            play(alloc, held, &mut listeners, row) && heard.load(Ordering::SeqCst) == row.4
+        }
+        Err(_fault) => false,
+    }
+}
+
+fn wrong_row<F: Faulty>(
+    alloc: Global,
+    held: &mut Held<F>,
+    heard: &Arc<AtomicU64>,
+) -> Option<usize> {
+    for (place, row) in CALLS.iter().enumerate() {
+        if !is_heard(alloc, held, heard, row) {
+            return Some(place);
+        }
+    }
+    None
+}
+
+fn wrong_held<F: Faulty>(alloc: Global, held: &mut Held<F>) -> Option<usize> {
+    match Arc::new(alloc, AtomicU64::new(0)) {
+        Ok(heard) => wrong_row(alloc, held, &heard),
+        Err(_error) => Some(0),
+    }
+}
+
+fn wrong_call<F: Faulty>(alloc: Global, files: F) -> Option<usize> {
+    let mut held = Held::Files(files);
+    let wrong = wrong_held(alloc, &mut held);
+    held.into_files();
+    wrong
 }
 
 #[test]
 fn a_listener_hears_each_call_in_order(rt: HostRuntime) -> Result<(), Fail> {
-    rows_hold(rt.alloc(), &mut (), &CALLS)
+    match wrong_call(rt.alloc(), MemoryFileSystem::new(rt.alloc())) {
+        None => Ok(()),
+        Some(place) => Err(Fail::new(format_args!("row {place}"))),
+    }
 }

@@ -1,21 +1,19 @@
-//! Tests that cross crates: trials, refusals of a list of operations, and logs that use files again.
+//! Tests that cross crates: trials, refusals of lists of operations, logs that use files again, forks and listeners.
 #![tactic(auto)]
 
 #[cfg(test)]
 mod answers;
 #[cfg(test)]
-mod fork_refusals;
+mod bench;
 #[cfg(test)]
-mod fork_stops;
+mod fork_refusals;
 #[cfg(test)]
 mod heard;
 #[cfg(test)]
-mod keepers;
-#[cfg(test)]
-mod recycling;
+mod lists;
 #[cfg(test)]
 mod refusals;
 #[cfg(test)]
-mod sittings;
+mod stops;
 #[cfg(test)]
 mod trials;

@@ -1,28 +1,23 @@
-//! Operations with one failing call to the files.
+//! Lists of which one call to the files fails, and then the files are left in three ways.
 
-use crate::answers::{LEFTS, begin_as_wanted, failed_by};
-use crate::sittings::found_after;
+use crate::answers::begin_as_wanted;
+use crate::bench::{Bench, Work, work_at};
+use crate::lists::{LISTS, List, Sort};
 use raft_env::IoKind;
 use raft_memory::{FsCall, MemoryFileSystem};
-use raft_records::Fault;
-use raft_test_rows::{
-    CALLS, EXPIRED, Failing, Faulty, OPERATIONS, Op, Outcome, PURGES, Plan, Ran, first_refused,
-    is_allowed, is_refusal, ops_of, run_over, settings,
-};
+use raft_test_rows::{CALLS, Failing, Faulty, Left, Outcome, first_refused};
 use std::alloc::Global;
-use std::process::Abort;
 use std::test::Fail;
+
+/// A sort of calls, which of them fails, and how.
+type Refusal = (FsCall, u64, IoKind);
 
 const MAX_CALLS: u64 = 400;
 
 const KINDS: [IoKind; 3] = [IoKind::NoSpace, IoKind::NotFound, IoKind::Other];
 
-// What the operations are answered where nothing fails.
-fn answered(rt: &impl Abort, alloc: Global, ops: &[Op]) -> Result<Vec<Outcome>, Fail> {
-    let (ran, _) = run_over(alloc, settings(alloc)?, ops, MemoryFileSystem::new(alloc))?;
-    assert!(rt; ran.outcomes.len() == ops.len() && first_refused(&ran.outcomes).is_none());
-    Ok(ran.outcomes)
-}
+/// What a crash may leave of each log file.
+static LEFTS: [Left; 3] = [Left::All, Left::Synced, Left::Torn(7, 255)];
 
 // Whether no operation fails by the failing call: room that can't be made ahead is done without, and a record that
 // finds no space goes to the next file, but a header that finds none fails.
@@ -34,128 +29,121 @@ fn is_done_without(call: FsCall, kind: IoKind, refused: bool) -> bool {
     }
 }
 
-// Whether the opening or an operation fails by the call, or nothing where one is answered wrongly.
-fn failed(ops: &[Op], ran: &Ran, kind: IoKind) -> Option<bool> {
-    match &ran.refused {
-        Some(fault) => {
-            if is_refusal(fault, kind) {
-                Some(true)
-            } else {
-                None
-            }
-        }
-        None => failed_by(ops, &ran.outcomes, kind),
+// .. if dropped files are used again.
+fn is_never_missed(call: FsCall) -> bool {
+    matches!(
+        call,
+        FsCall::Rename | FsCall::FreeSpace | FsCall::DeleteMetadata | FsCall::Allocate
+    )
+}
+
+// Whether an operation fails, or the opening, if a call did that they don't do without.
+fn is_right(work: &Work, outcomes: &[Outcome], refusal: Refusal, is_met: bool) -> bool {
+    let (call, _, kind) = refusal;
+    let are_all = outcomes.len() == work.wanted.len();
+    let failed = !are_all || first_refused(outcomes).is_some();
+    match work.sort {
+        Sort::Plain => failed == (is_met && !is_done_without(call, kind, failed)),
+        _ => !failed || !is_never_missed(call),
     }
 }
 
-// Whether the operations are answered as wanted, and one fails, or the opening, where a call did that
-// they don't do without.
-fn are_answered(
-    ops: &[Op],
-    ran: &Ran,
-    wanted: &[Outcome],
-    call: FsCall,
-    kind: IoKind,
-    is_met: bool,
-) -> bool {
-    match failed(ops, ran, kind) {
-        Some(failed) => {
-            begin_as_wanted(&ran.outcomes, wanted)
-                && failed == (is_met && !is_done_without(call, kind, failed))
-        }
-        None => false,
-    }
-}
-
-// Whether what crashes leave may be found.
-fn finds_allowed<F: Faulty>(
-    alloc: Global,
-    ops: &[Op],
-    ran: &Ran,
-    files: &F,
-) -> Result<bool, Fault> {
-    for left in &LEFTS {
-        let found = found_after(alloc, settings(alloc)?, files, left)?;
-        if !is_allowed(ops, &ran.outcomes, ran.failed_at, found) {
-            return Ok(false);
-        }
-    }
-    Ok(true)
-}
-
-// With the nth call of a sort failing: whether there were so many, or nothing where something is wrong.
+// With the call failing: whether it came, or nothing if something is wrong.
 fn refuse_one<F: Faulty>(
     alloc: Global,
-    ops: &[Op],
-    wanted: &[Outcome],
-    call: FsCall,
-    nth: u64,
-    kind: IoKind,
-) -> Result<Option<bool>, Fault> {
-    let mut files = F::fresh(alloc);
-    files.fail(Failing::Nth(call, nth, kind))?;
-    let (ran, files) = run_over(alloc, settings(alloc)?, ops, files)?;
-    let is_met = files.refusals() > 0;
-    if are_answered(ops, &ran, wanted, call, kind, is_met)
-        && finds_allowed(alloc, ops, &ran, &files)?
-    {
-        Ok(Some(is_met))
+    bench: &mut Bench<F>,
+    work: &Work,
+    refusal: Refusal,
+) -> Option<bool> {
+    let failing = Failing::Nth(refusal.0, refusal.1, refusal.2);
+    if !bench.run(alloc, work, Some(failing)) || !bench.is_told(work, refusal.2) {
+        return None;
+    }
+    let is_met = bench.has_failed();
+    let is_wanted = begin_as_wanted(&bench.ran.outcomes, &work.wanted)
+        && is_right(work, &bench.ran.outcomes, refusal, is_met);
+    if is_wanted && bench.finds_allowed(alloc, work, &LEFTS) {
+        Some(is_met)
     } else {
-        Ok(None)
+        None
     }
 }
 
-// The first call of a sort that doesn't come, or of which something is wrong, and whether it is the former.
-fn first_missing(
+// In two folders there are calls of each sort.
+fn is_last(work: &Work, nth: u64) -> bool {
+    match work.sort {
+        Sort::InTwoFolders => nth > 1,
+        _ => true,
+    }
+}
+
+// The first call of a sort of which something is wrong, up to one that doesn't come.
+fn wrong_call<F: Faulty>(
     alloc: Global,
-    ops: &[Op],
-    wanted: &[Outcome],
+    bench: &mut Bench<F>,
+    work: &Work,
     call: FsCall,
     kind: IoKind,
-) -> Result<(u64, bool), Fault> {
+) -> Option<u64> {
     for nth in 1..MAX_CALLS {
-        match refuse_one::<MemoryFileSystem>(alloc, ops, wanted, call, nth, kind)? {
+        match refuse_one(alloc, bench, work, (call, nth, kind)) {
             Some(true) => {}
-            Some(false) => return Ok((nth, true)),
-            None => return Ok((nth, false)),
+            Some(false) if is_last(work, nth) => return None,
+            _ => return Some(nth),
         }
     }
-    Ok((MAX_CALLS, false))
+    Some(MAX_CALLS)
 }
 
-fn refuse_each(
-    rt: &impl Abort,
-    alloc: Global,
-    plans: &[Plan],
-    kinds: &[IoKind],
-) -> Result<(), Fail> {
-    let ops = ops_of(alloc, plans)?;
-    let wanted = answered(rt, alloc, &ops)?;
+fn wrong_in<F: Faulty>(alloc: Global, bench: &mut Bench<F>, work: &Work) -> Option<Refusal> {
     for call in &CALLS {
-        for kind in kinds {
-            let (nth, is_missing) = first_missing(alloc, &ops, &wanted, *call, *kind)?;
-            assert!(rt; is_missing, "{call:?} {nth} {kind:?}");
+        for kind in &KINDS {
+            if let Some(nth) = wrong_call(alloc, bench, work, *call, *kind) {
+                return Some((*call, nth, *kind));
+            }
         }
     }
-    Ok(())
+    None
+}
+
+// The first call of a list of which something is wrong; of one that can't be done at all the first of all.
+fn wrong_of<F: Faulty>(alloc: Global, bench: &mut Bench<F>, list: &List) -> Option<Refusal> {
+    let nothing = Some((FsCall::Create, 0, IoKind::Other));
+    match work_at(alloc, bench, list) {
+        Some(work) => {
+            let are_all = work.wanted.len() == work.ops.len();
+            if are_all && first_refused(&work.wanted).is_none() {
+                wrong_in(alloc, bench, &work)
+            } else {
+                nothing
+            }
+        }
+        None => nothing,
+    }
+}
+
+fn wrong_list<F: Faulty>(alloc: Global, bench: &mut Bench<F>) -> Option<(&'static str, Refusal)> {
+    for list in &LISTS {
+        if let Some(refusal) = wrong_of(alloc, bench, list) {
+            return Some((list.name, refusal));
+        }
+    }
+    None
+}
+
+fn wrong_refusal<F: Faulty>(alloc: Global, files: F) -> Option<(&'static str, Refusal)> {
+    let mut bench = Bench::new(alloc, files);
+    let wrong = wrong_list(alloc, &mut bench);
+    bench.end();
+    wrong
 }
 
 #[test]
 fn each_call_may_be_refused(rt: HostRuntime) -> Result<(), Fail> {
-    refuse_each(&rt, rt.alloc(), &OPERATIONS, &KINDS)
-}
-
-#[test]
-fn each_call_of_purges_may_be_refused(rt: HostRuntime) -> Result<(), Fail> {
-    refuse_each(&rt, rt.alloc(), &PURGES, &[IoKind::NotFound, IoKind::Other])
-}
-
-#[test]
-fn each_call_of_purges_by_watermarks_may_be_refused(rt: HostRuntime) -> Result<(), Fail> {
-    refuse_each(&rt, rt.alloc(), &EXPIRED, &KINDS)
-}
-
-#[test]
-fn each_call_of_purges_may_find_no_space(rt: HostRuntime) -> Result<(), Fail> {
-    refuse_each(&rt, rt.alloc(), &PURGES, &[IoKind::NoSpace])
+    match wrong_refusal(rt.alloc(), MemoryFileSystem::new(rt.alloc())) {
+        None => Ok(()),
+        Some((name, (call, nth, kind))) => Err(Fail::new(format_args!(
+            "{name}: {call:?} {nth} {kind:?}"
+        ))),
+    }
 }

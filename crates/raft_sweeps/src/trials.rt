@@ -1,10 +1,10 @@
 //! Trials: operations, a crash and an opening in one call.
 
+use raft_memory::Choice;
 use raft_records::Fault;
-use raft_rows::{Row, rows_hold};
 use raft_test_rows::{
-    Answer, Change, EMPTY, Left, Plan, State, Trial, are_answers, choice_of, ops_of, settings,
-    state_of, trial, trial_twice,
+    Answer, Change, EMPTY, Image, Left, Op, Plan, State, Trial, are_answers, choice_of, ops_of,
+    settings, state_of, trial, trial_twice,
 };
 use std::alloc::Global;
 use std::test::Fail;
@@ -86,99 +86,194 @@ const SYNCED: State = State {
     ..EMPTY
 };
 
-/// Operations, a stop, what a crash is to leave, the answers, and what is found or the code of the refusal.
+/// A second crash: a stop of the opening after the first one, and what it is to leave.
+struct Again(Option<u64>, Left);
+
+/// Operations, a stop, what a crash is to leave, perhaps a second crash, what the operations return, and what is found or
+/// the code of the fault.
 struct Case(
     &'static [Plan],
     Option<u64>,
     Left,
+    Option<Again>,
     &'static [Answer],
     Result<State, u8>,
 );
 
-static CASES: [Case; 9] = [
-    Case(&PLANS, None, Left::All, &ANSWERS, Ok(BOTH)),
-    Case(&PLANS, None, Left::Synced, &ANSWERS, Ok(FIRST)),
-    Case(&PLANS, None, Left::Torn(1, 0), &ANSWERS, Ok(FIRST)),
-    Case(&PLANS, None, Left::Torn(1, 255), &ANSWERS, Ok(FIRST)),
-    Case(&GROUP, None, Left::Synced, &GROUP_ANSWERS, Ok(GROUPED)),
+static CASES: [Case; 14] = [
+    Case(&PLANS, None, Left::All, None, &ANSWERS, Ok(BOTH)),
+    Case(&PLANS, None, Left::Synced, None, &ANSWERS, Ok(FIRST)),
+    Case(&PLANS, None, Left::Torn(1, 0), None, &ANSWERS, Ok(FIRST)),
+    Case(&PLANS, None, Left::Torn(1, 255), None, &ANSWERS, Ok(FIRST)),
+    Case(
+        &GROUP,
+        None,
+        Left::Synced,
+        None,
+        &GROUP_ANSWERS,
+        Ok(GROUPED),
+    ),
     // The first call that changes files is one of the opening.
-    Case(&PLANS, Some(1), Left::All, &[], Ok(EMPTY)),
+    Case(&PLANS, Some(1), Left::All, None, &[], Ok(EMPTY)),
     // Storage may not leave these bytes.
-    Case(&PLANS, None, Left::Bytes(&[]), &[], Err(1)),
-    Case(&ENTRIES, None, Left::All, &ENTRY_ANSWERS, Ok(REPLACED)),
-    Case(&ENTRIES, None, Left::Synced, &ENTRY_ANSWERS, Ok(SYNCED)),
+    Case(&PLANS, None, Left::Bytes(&[]), None, &[], Err(1)),
+    Case(
+        &ENTRIES,
+        None,
+        Left::All,
+        None,
+        &ENTRY_ANSWERS,
+        Ok(REPLACED),
+    ),
+    Case(
+        &ENTRIES,
+        None,
+        Left::Synced,
+        None,
+        &ENTRY_ANSWERS,
+        Ok(SYNCED),
+    ),
+    Case(
+        &PLANS,
+        None,
+        Left::Synced,
+        Some(Again(None, Left::All)),
+        &ANSWERS,
+        Ok(FIRST),
+    ),
+    Case(
+        &PLANS,
+        None,
+        Left::All,
+        Some(Again(None, Left::Synced)),
+        &ANSWERS,
+        Ok(BOTH),
+    ),
+    Case(
+        &PLANS,
+        None,
+        Left::All,
+        Some(Again(Some(1), Left::All)),
+        &ANSWERS,
+        Ok(BOTH),
+    ),
+    Case(
+        &PLANS,
+        None,
+        Left::Torn(1, 0),
+        Some(Again(Some(1), Left::Synced)),
+        &ANSWERS,
+        Ok(FIRST),
+    ),
+    Case(
+        &PLANS,
+        None,
+        Left::Torn(1, 255),
+        Some(Again(Some(2), Left::All)),
+        &ANSWERS,
+        Ok(FIRST),
+    ),
 ];
 
-fn finds(shown: &Trial, wanted: State) -> bool {
-    match &shown.opened {
+fn is_found(opened: &Result<Image, Fault>, wanted: State) -> bool {
+    match opened {
         Ok(image) => state_of(image) == wanted,
         Err(_) => false,
     }
 }
 
-impl Row for Case {
-    type State = ();
+// Whether the opening after the first crash is done, if no call stops it, and finds the same.
+fn is_second(shown: &Trial, again: &Option<Again>, wanted: State) -> bool {
+    match (&shown.second, again) {
+        (Some(second), Some(again)) => match again.0 {
+            Some(_) => second.is_err(),
+            None => is_found(second, wanted),
+        },
+        (None, None) => true,
+        _ => false,
+    }
+}
 
-    fn holds(&self, alloc: Global, _: &mut ()) -> Result<bool, Fault> {
-        let Case(plans, stop, left, answers, found) = self;
-        let ops = ops_of(alloc, plans)?;
-        let choice = choice_of(alloc, left)?;
-        let tried = trial(alloc, settings(alloc)?, &ops, *stop, &[choice]);
-        match (&tried, found) {
-            (Ok(shown), Ok(wanted)) => Ok(
-                are_answers(&shown.outcomes, answers)
-                    && shown.failed_at.is_none()
-                    && finds(shown, *wanted),
-            ),
-            (Err(fault), Err(code)) => Ok(fault.code() == *code),
-            _ => Ok(false),
+fn is_shown(case: &Case, shown: &Trial, wanted: State) -> bool {
+    are_answers(&shown.outcomes, case.4)
+        && shown.failed_at.is_none()
+        && is_found(&shown.opened, wanted)
+        && is_second(shown, &case.3, wanted)
+}
+
+fn is_right(case: &Case, tried: Result<Trial, Fault>) -> bool {
+    match (&tried, &case.5) {
+        (Ok(shown), Ok(wanted)) => is_shown(case, shown, *wanted),
+        (Err(fault), Err(code)) => fault.code() == *code,
+        _ => false,
+    }
+}
+
+fn is_tried(alloc: Global, case: &Case, ops: &[Op], left: &[Choice]) -> bool {
+    match settings(alloc) {
+        Ok(config) => is_right(case, trial(alloc, config, ops, case.1, left)),
+        Err(_fault) => false,
+    }
+}
+
+fn is_tried_twice(
+    alloc: Global,
+    case: &Case,
+    ops: &[Op],
+    left: &[Choice],
+    stop: Option<u64>,
+    more: &[Choice],
+) -> bool {
+    match settings(alloc) {
+        Ok(config) => is_right(
+            case,
+            trial_twice(alloc, config, ops, case.1, left, stop, more),
+        ),
+        Err(_fault) => false,
+    }
+}
+
+fn is_tried_again(alloc: Global, case: &Case, ops: &[Op], left: &[Choice], again: &Again) -> bool {
+    match choice_of(alloc, &again.1) {
+        Ok(more) => is_tried_twice(alloc, case, ops, left, again.0, &[more]),
+        Err(_fault) => false,
+    }
+}
+
+fn is_left(alloc: Global, case: &Case, ops: &[Op], left: &[Choice]) -> bool {
+    match &case.3 {
+        None => is_tried(alloc, case, ops, left),
+        Some(again) => is_tried_again(alloc, case, ops, left, again),
+    }
+}
+
+fn is_crashed(alloc: Global, case: &Case, ops: &[Op]) -> bool {
+    match choice_of(alloc, &case.2) {
+        Ok(left) => is_left(alloc, case, ops, &[left]),
+        Err(_fault) => false,
+    }
+}
+
+fn is_done(alloc: Global, case: &Case) -> bool {
+    match ops_of(alloc, case.0) {
+        Ok(ops) => is_crashed(alloc, case, &ops),
+        Err(_fault) => false,
+    }
+}
+
+fn wrong_case(alloc: Global) -> Option<usize> {
+    for (place, case) in CASES.iter().enumerate() {
+        if !is_done(alloc, case) {
+            return Some(place);
         }
     }
+    None
 }
 
 #[test]
 fn trial_really_crashes(rt: HostRuntime) -> Result<(), Fail> {
-    rows_hold(rt.alloc(), &mut (), &CASES)
-}
-
-/// What the first crash is to leave, a stop of the opening after it, what the second is to leave, and what is found.
-struct Twice(Left, Option<u64>, Left, State);
-
-static TWICE: [Twice; 5] = [
-    Twice(Left::Synced, None, Left::All, FIRST),
-    Twice(Left::All, None, Left::Synced, BOTH),
-    Twice(Left::All, Some(1), Left::All, BOTH),
-    Twice(Left::Torn(1, 0), Some(1), Left::Synced, FIRST),
-    Twice(Left::Torn(1, 255), Some(2), Left::All, FIRST),
-];
-
-impl Row for Twice {
-    type State = ();
-
-    fn holds(&self, alloc: Global, _: &mut ()) -> Result<bool, Fault> {
-        let Twice(left, again, more, found) = self;
-        let ops = ops_of(alloc, &PLANS)?;
-        let first = choice_of(alloc, left)?;
-        let second = choice_of(alloc, more)?;
-        let shown = trial_twice(
-            alloc,
-            settings(alloc)?,
-            &ops,
-            None,
-            &[first],
-            *again,
-            &[second],
-        )?;
-        let is_second = match &shown.second {
-            Some(Ok(image)) => again.is_none() && state_of(image) == *found,
-            Some(Err(_)) => again.is_some(),
-            None => false,
-        };
-        Ok(is_second && finds(&shown, *found))
+    match wrong_case(rt.alloc()) {
+        None => Ok(()),
+        Some(place) => Err(Fail::new(format_args!("row {place}"))),
     }
-}
-
-#[test]
-fn trial_really_crashes_twice(rt: HostRuntime) -> Result<(), Fail> {
-    rows_hold(rt.alloc(), &mut (), &TWICE)
 }

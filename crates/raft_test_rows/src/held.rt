@@ -96,10 +96,17 @@ pub enum Held<F: FileSystem> {
     Nothing,
 }
 
-fn is_image<F: FileSystem>(engine: &mut Engine<F>, state: State) -> bool {
+fn image_state<F: FileSystem>(engine: &mut Engine<F>) -> Option<State> {
     match engine.image() {
-        Ok(image) => state_of(&image) == state,
-        Err(_) => false,
+        Ok(image) => Some(state_of(&image)),
+        Err(_fault) => None,
+    }
+}
+
+fn is_state(found: Option<State>, wanted: State) -> bool {
+    match found {
+        Some(state) => state == wanted,
+        None => false,
     }
 }
 
@@ -114,13 +121,32 @@ impl<F: Faulty> Held<F> {
         }
     }
 
-    fn take(&mut self) -> Option<F> {
+    /// Takes the files, which an engine gives up.
+    pub fn take(&mut self) -> Option<F> {
         mem::replace(self, Held::Nothing).into_files()
     }
 
-    // What was held ends by a call: the proof of a drop is written out where it stands.
-    fn hold(&mut self, held: Held<F>) {
+    /// Holds this in place of what was held, which ends by a call: the proof of a drop is long.
+    pub fn hold(&mut self, held: Held<F>) {
         mem::replace(self, held).into_files();
+    }
+
+    /// Holds what a crash leaves of another's files: whether it has any, and there is memory.
+    pub fn hold_left(&mut self, alloc: Global, of: &mut Held<F>, left: &Left) -> bool {
+        match of.files() {
+            Some(files) => self.hold_made(files.left(alloc, left)),
+            None => false,
+        }
+    }
+
+    fn hold_made(&mut self, made: Result<F, Fault>) -> bool {
+        match made {
+            Ok(files) => {
+                self.hold(Held::Files(files));
+                true
+            }
+            Err(_fault) => false,
+        }
     }
 
     /// Begins anew.
@@ -160,25 +186,55 @@ impl<F: Faulty> Held<F> {
                 self.open_with(alloc, config);
                 true
             }
-            Err(_) => false,
+            Err(_fault) => false,
+        }
+    }
+
+    fn close_engine(&mut self, engine: Engine<F>) {
+        match engine.close() {
+            Ok(files) => self.hold(Held::Files(files)),
+            Err(refused) => self.hold(Held::Refused(refused)),
         }
     }
 
     pub fn close(&mut self) {
-        if let Held::Engine(engine) = mem::replace(self, Held::Nothing) {
-            match engine.close() {
-                Ok(files) => self.hold(Held::Files(files)),
-                Err(refused) => self.hold(Held::Refused(refused)),
+        match mem::replace(self, Held::Nothing) {
+            Held::Engine(engine) => self.close_engine(engine),
+            held => {
+                held.into_files();
             }
         }
     }
 
+    fn reopen_engine(&mut self, engine: Engine<F>) {
+        match engine.reopen() {
+            Ok(engine) => self.hold(Held::Engine(engine)),
+            Err(refused) => self.hold(Held::Refused(refused)),
+        }
+    }
+
     pub fn reopen(&mut self) {
-        if let Held::Engine(engine) = mem::replace(self, Held::Nothing) {
-            match engine.reopen() {
-                Ok(engine) => self.hold(Held::Engine(engine)),
-                Err(refused) => self.hold(Held::Refused(refused)),
+        match mem::replace(self, Held::Nothing) {
+            Held::Engine(engine) => self.reopen_engine(engine),
+            held => {
+                held.into_files();
             }
+        }
+    }
+
+    /// How many calls failed of the files, unless an engine has them.
+    pub fn refusals(&mut self) -> u64 {
+        match self.files() {
+            Some(files) => files.refusals(),
+            None => 0,
+        }
+    }
+
+    /// What the engine's image shows.
+    pub fn state(&mut self) -> Option<State> {
+        match self {
+            Held::Engine(engine) => image_state(engine),
+            _ => None,
         }
     }
 
@@ -194,7 +250,7 @@ impl<F: Faulty> Held<F> {
     pub fn has_come_to(&mut self, wanted: &Result<State, u8>) -> bool {
         match self {
             Held::Engine(engine) => match wanted {
-                Ok(state) => is_image(engine, *state),
+                Ok(state) => is_state(image_state(engine), *state),
                 Err(_) => false,
             },
             Held::Refused(refused) => match wanted {

@@ -1,8 +1,9 @@
-//! Operations over files of which a call may be refused, and what they come to.
+//! Operations at an engine, and what they come to.
 
+use crate::held::{Faulty, Held};
 use crate::states::first_refused;
 use raft_env::{FileSystem, IoKind};
-use raft_log_engine::{Config, Engine};
+use raft_log_engine::Engine;
 use raft_memory::FsCall;
 use raft_records::Fault;
 use raft_script::{Op, Outcome, run};
@@ -31,46 +32,58 @@ pub const CALLS: [FsCall; 16] = [
 /// What operations came to.
 #[derive(Drop)]
 pub struct Ran {
-    /// Empty where the opening failed.
+    /// Empty if the opening failed.
     pub outcomes: Vec<Outcome>,
     pub failed_at: Option<usize>,
-    /// Why the opening failed, if it did.
-    pub refused: Option<Fault>,
+    pub is_opened: bool,
 }
 
-/// Does the operations at an engine that then gives the files up.
-pub fn run_over<F: FileSystem + Drop>(
-    alloc: Global,
-    config: Config,
-    ops: &[Op],
-    files: F,
-) -> Result<(Ran, F), Fault> {
-    match Engine::open_in_order(alloc, config, files) {
-        Ok(mut engine) => {
-            let ran = run(alloc, &mut engine, ops);
-            let has_failed = engine.failed();
-            let files = engine.give_up();
-            let outcomes = ran?;
-            let failed_at = if has_failed {
-                first_refused(&outcomes)
-            } else {
-                None
-            };
-            let ran = Ran {
-                outcomes,
-                failed_at,
-                refused: None,
-            };
-            Ok((ran, files))
+impl Ran {
+    pub fn new(alloc: Global) -> Ran {
+        Ran {
+            outcomes: Vec::new(alloc),
+            failed_at: None,
+            is_opened: false,
         }
-        Err(refused) => Ok((
-            Ran {
-                outcomes: Vec::new(alloc),
-                failed_at: None,
-                refused: Some(refused.fault),
-            },
-            refused.file_system,
-        )),
+    }
+
+    fn take_outcomes(&mut self, outcomes: Vec<Outcome>, has_failed: bool) {
+        self.failed_at = if has_failed {
+            first_refused(&outcomes)
+        } else {
+            None
+        };
+        self.outcomes = outcomes;
+    }
+}
+
+fn run_noted<F: FileSystem>(
+    alloc: Global,
+    engine: &mut Engine<F>,
+    ops: &[Op],
+    ran: &mut Ran,
+) -> bool {
+    match run(alloc, engine, ops) {
+        Ok(outcomes) => {
+            ran.take_outcomes(outcomes, engine.failed());
+            true
+        }
+        Err(_fault) => false,
+    }
+}
+
+/// Does the operations at the engine, if there is one: whether there was memory for what they come to.
+pub fn run_held<F: Faulty>(alloc: Global, held: &mut Held<F>, ops: &[Op], ran: &mut Ran) -> bool {
+    match held {
+        Held::Engine(engine) => {
+            ran.is_opened = true;
+            run_noted(alloc, engine, ops, ran)
+        }
+        _ => {
+            ran.is_opened = false;
+            ran.take_outcomes(Vec::new(alloc), false);
+            true
+        }
     }
 }
 

@@ -6,90 +6,202 @@ use raft_env::{FileSystem, IoKind};
 use raft_memory::{FsCall, MemoryFileSystem};
 use raft_records::Fault;
 use raft_test_rows::{
-    CALLS, Engine, Image, MAX_FILES, Outcome, Ran, choices_of, fault_of, is_done, is_refusal,
-    run_over,
+    CALLS, Engine, Failing, Faulty, Held, Left, Outcome, Ran, fault_of, is_done, is_refusal,
+    run_held,
 };
 use std::alloc::Global;
+use std::mem;
 
 const MAX_CALLS: u64 = 400;
 
-fn image_in<F: FileSystem + Drop>(alloc: Global, list: &List, files: F) -> Result<Image, Fault> {
-    let mut engine = Engine::open_in_order(alloc, list.config(alloc)?, files)?;
-    let image = engine.image();
-    engine.give_up();
-    image
+/// Files with an engine or without, what a crash leaves of them, what the operations came to, and what they come to if no
+/// call is refused.
+#[derive(Drop)]
+struct Bench<F: FileSystem> {
+    held: Held<F>,
+    left: Held<F>,
+    ran: Ran,
+    whole: Vec<Outcome>,
 }
 
-// What a purge answers goes by how many files were begun.
+fn opens<F: Faulty>(alloc: Global, held: &mut Held<F>, list: &List) -> bool {
+    match list.config(alloc) {
+        Ok(config) => {
+            held.open_with(alloc, config);
+            true
+        }
+        Err(_error) => false,
+    }
+}
+
+// What a purge returns goes by how many files were begun.
 fn is_as_before(outcome: &Outcome, before: &Outcome) -> bool {
     let of_purge = matches!(outcome, Outcome::Dropped(_) | Outcome::ToCompact(_));
     (of_purge && is_done(outcome)) || *outcome == *before
 }
 
-// Whether the operations are answered as without the refused call up to one, if any, that says so;
-// behind it none fails, but all do where the engine failed.
+// Whether an operation may come to this, after a refused one or not.
+fn may_come(outcome: &Outcome, before: &Outcome, kind: IoKind, refused: bool) -> bool {
+    match fault_of(outcome) {
+        Some(Fault::Failed) => refused,
+        Some(fault) => is_refusal(fault, kind) && !refused,
+        None => refused || is_as_before(outcome, before),
+    }
+}
+
+// Whether the operations come to the same as without the refused call up to one, if any, that says so;
+// after it none fails, except that all do if the engine failed.
 fn are_answers(outcomes: &[Outcome], before: &[Outcome], kind: IoKind) -> bool {
     let mut refused = false;
-    let mut right = true;
     for (outcome, before) in outcomes.iter().zip(before) {
-        right = right
-            && match fault_of(outcome) {
-                Some(Fault::Failed) => refused,
-                Some(fault) => is_refusal(fault, kind) && !refused,
-                None => refused || is_as_before(outcome, before),
-            };
+        if !may_come(outcome, before, kind, refused) {
+            return false;
+        }
         refused = refused || !is_done(outcome);
     }
-    right
+    true
 }
 
-fn is_answered(ran: &Ran, before: &[Outcome], kind: IoKind) -> bool {
-    match &ran.refused {
-        Some(fault) => is_refusal(fault, kind),
-        None => ran.outcomes.len() == before.len() && are_answers(&ran.outcomes, before, kind),
-    }
-}
-
-// Whether what crashes leave may be left.
-fn are_allowed(
+fn is_image_allowed<F: FileSystem>(
     alloc: Global,
+    engine: &mut Engine<F>,
     list: &List,
-    ran: &Ran,
-    files: &MemoryFileSystem,
-    tally: &mut Tally,
-) -> Result<bool, Fault> {
-    let came_to = CameTo {
-        is_opened: ran.refused.is_none(),
-        outcomes: &ran.outcomes,
-        failed_at: ran.failed_at,
-    };
-    let mut right = true;
-    for left in &LEFTS {
-        let choices = choices_of(alloc, left, MAX_FILES)?;
-        let found = image_in(alloc, list, files.crash(&choices)?)?;
-        right = right && list.allows(alloc, came_to, &found)?;
-        tally.add_crash();
+    ran: CameTo<'_>,
+) -> bool {
+    match engine.image() {
+        Ok(image) => matches!(list.allows(alloc, ran, &image), Ok(true)),
+        Err(_fault) => false,
     }
-    Ok(right)
 }
 
-// The nth call of a sort is refused: whether there were so many.
-fn refuse_one(
-    alloc: Global,
-    list: &List,
-    before: &[Outcome],
-    failing: (FsCall, u64, IoKind),
-    tally: &mut Tally,
-) -> Result<bool, Fault> {
-    let (call, nth, kind) = failing;
-    let mut files = MemoryFileSystem::new(alloc);
-    files.refuse(call, nth, kind)?;
-    let (ran, files) = run_over(alloc, list.config(alloc)?, &list.done, files)?;
-    let are_allowed = are_allowed(alloc, list, &ran, &files, tally)?;
-    if !are_allowed || !is_answered(&ran, before, kind) {
-        tally.add_wrong(alloc, &(call, nth, kind))?;
+impl<F: Faulty> Bench<F> {
+    fn new(alloc: Global, files: F) -> Bench<F> {
+        Bench {
+            held: Held::Files(files),
+            left: Held::Nothing,
+            ran: Ran::new(alloc),
+            whole: Vec::new(alloc),
+        }
     }
-    Ok(files.refusals() > 0)
+
+    fn end(self) {
+        self.held.into_files();
+        self.left.into_files();
+    }
+
+    // Does the operations: whether there was memory.
+    fn runs(&mut self, alloc: Global, list: &List) -> bool {
+        opens(alloc, &mut self.held, list)
+            && run_held(alloc, &mut self.held, &list.done, &mut self.ran)
+    }
+
+    // .. with no call refused.
+    fn runs_whole(&mut self, alloc: Global, list: &List) -> bool {
+        self.held.renew(alloc);
+        let is_run = self.runs(alloc, list);
+        mem::swap(&mut self.whole, &mut self.ran.outcomes);
+        is_run
+    }
+
+    fn is_answered(&self, kind: IoKind) -> bool {
+        match self.held.fault() {
+            Some(fault) => is_refusal(fault, kind),
+            None => {
+                self.ran.outcomes.len() == self.whole.len()
+                    && are_answers(&self.ran.outcomes, &self.whole, kind)
+            }
+        }
+    }
+
+    // Whether what a crash leaves may be left.
+    fn is_allowed(&mut self, alloc: Global, list: &List, left: &Left) -> bool {
+        let is_left = self.left.hold_left(alloc, &mut self.held, left)
+            && opens(alloc, &mut self.left, list);
+        let ran = CameTo {
+            is_opened: self.ran.is_opened,
+            outcomes: &self.ran.outcomes,
+            failed_at: self.ran.failed_at,
+        };
+        match &mut self.left {
+            Held::Engine(engine) => is_left && is_image_allowed(alloc, engine, list, ran),
+            _ => false,
+        }
+    }
+
+    fn are_allowed(&mut self, alloc: Global, list: &List, tally: &mut Tally) -> bool {
+        let mut right = true;
+        for left in &LEFTS {
+            right = self.is_allowed(alloc, list, left) && right;
+            tally.add_crash();
+        }
+        right
+    }
+
+    // The nth call of a sort is refused: whether what comes of it may come.
+    fn refuse(
+        &mut self,
+        alloc: Global,
+        list: &List,
+        failing: Failing,
+        kind: IoKind,
+        tally: &mut Tally,
+    ) -> bool {
+        self.held.renew(alloc);
+        let is_run = self.held.fail(failing) && self.runs(alloc, list);
+        let is_answered = self.is_answered(kind);
+        self.held.give_up();
+        self.are_allowed(alloc, list, tally) && is_run && is_answered
+    }
+}
+
+// Each call of a sort is refused in this way.
+fn refuse_sort<F: Faulty>(
+    alloc: Global,
+    bench: &mut Bench<F>,
+    list: &List,
+    call: FsCall,
+    kind: IoKind,
+    tally: &mut Tally,
+) -> Result<(), Fault> {
+    for nth in 1..MAX_CALLS {
+        if !bench.refuse(alloc, list, Failing::Nth(call, nth, kind), kind, tally) {
+            tally.add_wrong(alloc, &(call, nth, kind))?;
+        }
+        if bench.held.refusals() == 0 {
+            return Ok(());
+        }
+        tally.add_call();
+    }
+    Ok(())
+}
+
+fn refuse_each<F: Faulty>(
+    alloc: Global,
+    bench: &mut Bench<F>,
+    list: &List,
+    kind: IoKind,
+    tally: &mut Tally,
+) -> Result<(), Fault> {
+    if !bench.runs_whole(alloc, list) {
+        return Err(Fault::Memory);
+    }
+    for call in &CALLS {
+        refuse_sort(alloc, bench, list, *call, kind, tally)?;
+    }
+    Ok(())
+}
+
+fn refuse_over<F: Faulty>(
+    alloc: Global,
+    files: F,
+    list: &List,
+    kind: IoKind,
+    tally: &mut Tally,
+) -> Result<(), Fault> {
+    let mut bench = Bench::new(alloc, files);
+    let refused = refuse_each(alloc, &mut bench, list, kind, tally);
+    bench.end();
+    refused
 }
 
 /// Each call of each sort is refused in this way, and the files crash in three ways.
@@ -99,15 +211,5 @@ pub(crate) fn each_call(
     kind: IoKind,
     tally: &mut Tally,
 ) -> Result<(), Fault> {
-    let files = MemoryFileSystem::new(alloc);
-    let (whole, _) = run_over(alloc, list.config(alloc)?, &list.done, files)?;
-    for call in &CALLS {
-        for nth in 1..MAX_CALLS {
-            if !refuse_one(alloc, list, &whole.outcomes, (*call, nth, kind), tally)? {
-                break;
-            }
-            tally.add_call();
-        }
-    }
-    Ok(())
+    refuse_over(alloc, MemoryFileSystem::new(alloc), list, kind, tally)
 }

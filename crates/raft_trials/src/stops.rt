@@ -11,8 +11,7 @@ use std::alloc::{AllocError, Global};
 
 const MAX_CALLS: u64 = 400;
 
-/// So many openings after a crash are to be answered, each stopped one call later than the one
-/// before.
+/// So many openings after a crash are to succeed, each stopped one call later than the one before.
 const ANSWERED: u64 = 3;
 
 /// After a crash that leaves one of these the opening stops too.
@@ -46,6 +45,34 @@ fn is_stopped(ops: &[Op], shown: &Trial) -> bool {
     shown.outcomes.len() != ops.len() || first_refused(&shown.outcomes).is_some()
 }
 
+// Counts a trial that found what may not be left.
+fn judge(
+    alloc: Global,
+    list: &List,
+    shown: &Trial,
+    is_right: bool,
+    tally: &mut Tally,
+) -> Result<(), Fault> {
+    if !is_right || !is_left(alloc, list, shown)? {
+        tally.add_wrong(alloc, shown)?;
+    }
+    Ok(())
+}
+
+fn crash_to(
+    alloc: Global,
+    list: &List,
+    stop: u64,
+    choices: &[Choice],
+    tally: &mut Tally,
+) -> Result<bool, Fault> {
+    let config = list.config(alloc)?;
+    let shown = trial(alloc, config, &list.done, Some(stop), choices)?;
+    tally.add_crash();
+    judge(alloc, list, &shown, true, tally)?;
+    Ok(is_stopped(&list.done, &shown))
+}
+
 // One crash: whether the stop came.
 fn crash_at(
     alloc: Global,
@@ -54,13 +81,13 @@ fn crash_at(
     left: &Left,
     tally: &mut Tally,
 ) -> Result<bool, Fault> {
-    let choices = choices_of(alloc, left, MAX_FILES)?;
-    let shown = trial(alloc, list.config(alloc)?, &list.done, Some(stop), &choices)?;
-    tally.add_crash();
-    if !is_left(alloc, list, &shown)? {
-        tally.add_wrong(alloc, &shown)?;
-    }
-    Ok(is_stopped(&list.done, &shown))
+    crash_to(
+        alloc,
+        list,
+        stop,
+        &choices_of(alloc, left, MAX_FILES)?,
+        tally,
+    )
 }
 
 // Whether the last opening found what the one before it did, if that was answered.
@@ -72,32 +99,43 @@ fn is_found_again(shown: &Trial) -> bool {
     }
 }
 
-// The opening after a crash stops at each call that changes files, and crashes in the same way.
+// The opening after a crash stops, and crashes in the same way: whether it is done all the same.
+fn stop_opening(
+    alloc: Global,
+    list: &List,
+    stop: u64,
+    again: u64,
+    choices: &[Choice],
+    tally: &mut Tally,
+) -> Result<bool, Fault> {
+    let config = list.config(alloc)?;
+    let ops = list.done.as_slice();
+    let shown = trial_twice(
+        alloc,
+        config,
+        ops,
+        Some(stop),
+        choices,
+        Some(again),
+        choices,
+    )?;
+    tally.add_in_opening();
+    judge(alloc, list, &shown, is_found_again(&shown), tally)?;
+    Ok(matches!(&shown.second, Some(Ok(_))))
+}
+
+// .. at each call that changes files.
 fn stop_openings(
     alloc: Global,
     list: &List,
     stop: u64,
-    choices: &[Choice],
+    left: &Left,
     tally: &mut Tally,
 ) -> Result<(), Fault> {
+    let choices = choices_of(alloc, left, MAX_FILES)?;
     let mut answered: u64 = 0;
     for again in 1..MAX_CALLS {
-        let config = list.config(alloc)?;
-        let ops = list.done.as_slice();
-        let shown = trial_twice(
-            alloc,
-            config,
-            ops,
-            Some(stop),
-            choices,
-            Some(again),
-            choices,
-        )?;
-        tally.add_in_opening();
-        if !is_left(alloc, list, &shown)? || !is_found_again(&shown) {
-            tally.add_wrong(alloc, &shown)?;
-        }
-        if matches!(&shown.second, Some(Ok(_))) {
+        if stop_opening(alloc, list, stop, again, &choices, tally)? {
             answered = answered.saturating_add(1);
         }
         if answered == ANSWERED {
@@ -121,8 +159,7 @@ fn crash_each(
         stopped = crash_at(alloc, list, stop, left, tally)?;
     }
     for left in &AGAIN {
-        let choices = choices_of(alloc, left, MAX_FILES)?;
-        stop_openings(alloc, list, stop, &choices, tally)?;
+        stop_openings(alloc, list, stop, left, tally)?;
     }
     Ok(stopped)
 }
@@ -176,17 +213,34 @@ fn are_without_memory(shown: &Trial) -> bool {
         && are_so(&shown.outcomes)
 }
 
-/// Crashes behind all operations. Where a request for memory is refused, as tools/refusals does, an
+// Whether a trial without a stop found what may be left, or there was no memory.
+fn is_whole(alloc: Global, list: &List, shown: &Trial) -> Result<bool, Fault> {
+    if !are_without_memory(shown) {
+        return Ok(false);
+    }
+    Ok(shown.opened.is_err() || is_left(alloc, list, shown)?)
+}
+
+fn crash_whole(
+    alloc: Global,
+    list: &List,
+    choices: &[Choice],
+    tally: &mut Tally,
+) -> Result<(), Fault> {
+    let config = list.config(alloc)?;
+    let shown = trial(alloc, config, &list.done, None, choices)?;
+    tally.add_crash();
+    if !is_whole(alloc, list, &shown)? {
+        tally.add_wrong(alloc, &shown)?;
+    }
+    Ok(())
+}
+
+/// Crashes after all operations. If a request for memory is refused, as tools/refusals does, an
 /// operation or an opening says what it had no memory for, and what is found may be left.
 pub(crate) fn without_stop(alloc: Global, list: &List, tally: &mut Tally) -> Result<(), Fault> {
     for left in &LEFTS {
-        let choices = choices_of(alloc, left, MAX_FILES)?;
-        let shown = trial(alloc, list.config(alloc)?, &list.done, None, &choices)?;
-        tally.add_crash();
-        let is_right = shown.opened.is_err() || is_left(alloc, list, &shown)?;
-        if !is_right || !are_without_memory(&shown) {
-            tally.add_wrong(alloc, &shown)?;
-        }
+        crash_whole(alloc, list, &choices_of(alloc, left, MAX_FILES)?, tally)?;
     }
     Ok(())
 }

@@ -273,32 +273,41 @@ fn is_image(image: &Image, rows: &[Row]) -> bool {
     equal
 }
 
-// Whether just these images are left, in this order.
-fn is_as_written(alloc: Global, case: &Case) -> Result<bool, Fault> {
-    let ops = ops_in(alloc, case.1)?;
-    let outcomes = outcomes_in(alloc, case.1)?;
-    let found = allowed(alloc, &ops, &outcomes, case.2)?;
-    let mut equal = found.len() == case.3.len();
-    for (image, rows) in found.iter().zip(case.3.iter()) {
+fn are_images(found: &[Image], wanted: &[&[Row]]) -> bool {
+    let mut equal = found.len() == wanted.len();
+    for (image, rows) in found.iter().zip(wanted) {
         equal = equal && is_image(image, rows);
     }
-    Ok(equal)
+    equal
+}
+
+// Whether just these images are left, in this order.
+fn is_as_written(
+    alloc: Global,
+    case: &Case,
+    ops: &[Op],
+    outcomes: &[Outcome],
+) -> Result<bool, Fault> {
+    Ok(are_images(&allowed(alloc, ops, outcomes, case.2)?, case.3))
 }
 
 fn is_refused(answer: Result<Vec<Image>, Fault>) -> bool {
     match answer {
-        Ok(_) => false,
+        Ok(_images) => false,
         Err(fault) => fault.code() == 1,
     }
 }
 
-// Whether outcomes that aren't as many as the operations are refused, and a place behind them.
-fn misfits_are_refused(alloc: Global, case: &Case) -> Result<bool, Fault> {
+// Whether outcomes that aren't as many as the operations are refused, and a place after them.
+fn misfits_are_refused(alloc: Global, ops: &[Op], outcomes: &[Outcome]) -> bool {
+    is_refused(allowed(alloc, ops, &[], None))
+        && is_refused(allowed(alloc, ops, outcomes, Some(ops.len())))
+}
+
+fn is_right(alloc: Global, case: &Case) -> Result<bool, Fault> {
     let ops = ops_in(alloc, case.1)?;
     let outcomes = outcomes_in(alloc, case.1)?;
-    let short = allowed(alloc, &ops, &[], None);
-    let past = allowed(alloc, &ops, &outcomes, Some(ops.len()));
-    Ok(is_refused(short) && is_refused(past))
+    Ok(is_as_written(alloc, case, &ops, &outcomes)? && misfits_are_refused(alloc, &ops, &outcomes))
 }
 
 /// What may be left of each list.
@@ -308,7 +317,7 @@ pub(crate) fn each_list(alloc: Global, tally: &mut Tally) -> Result<(), Fault> {
             tally.add_call();
         }
         tally.add_crash();
-        if !is_as_written(alloc, case)? || !misfits_are_refused(alloc, case)? {
+        if !is_right(alloc, case)? {
             tally.add_wrong(alloc, &case.0)?;
         }
     }

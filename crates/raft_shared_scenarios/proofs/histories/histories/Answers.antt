@@ -2,8 +2,8 @@ use denote.Param.Send.{sendable}
 use Rattle.raft_memory.proofs.Sent.{memory_send, memory_sync}
 use Rattle.raft_shared_scenarios.proofs.histories.histories.Goals as goal
 
-pub wrong_place-requires-send-F : goal.wrong_place-requires-send-F
-wrong_place-requires-send-F c κs = search (sendable, memory_send) depth 20
+pub wrong_story-requires-send-F : goal.wrong_story-requires-send-F
+wrong_story-requires-send-F c κs = search (sendable, memory_send) depth 20
 
-pub wrong_place-requires-sync-F : goal.wrong_place-requires-sync-F
-wrong_place-requires-sync-F c κs = search (sendable, memory_send, memory_sync) depth 20
+pub wrong_story-requires-sync-F : goal.wrong_story-requires-sync-F
+wrong_story-requires-sync-F c κs = search (sendable, memory_send, memory_sync) depth 20

@@ -2,14 +2,8 @@ use denote.Param.Send.{sendable}
 use Rattle.raft_memory.proofs.Sent.{memory_send, memory_sync}
 use Rattle.raft_shared_scenarios.proofs.threads.history.Goals as goal
 
-pub begin-requires-send-F : goal.begin-requires-send-F
-begin-requires-send-F g c κs = search (sendable, memory_send) depth 20
+pub share-requires-send-F : goal.share-requires-send-F
+share-requires-send-F g c κs = search (sendable, memory_send) depth 20
 
-pub begin-requires-sync-F : goal.begin-requires-sync-F
-begin-requires-sync-F g c κs = search (sendable, memory_send, memory_sync) depth 20
-
-pub finish-requires-send-F : goal.finish-requires-send-F
-finish-requires-send-F g c κs = search (sendable, memory_send) depth 20
-
-pub finish-requires-sync-F : goal.finish-requires-sync-F
-finish-requires-sync-F g c κs = search (sendable, memory_send, memory_sync) depth 20
+pub share-requires-sync-F : goal.share-requires-sync-F
+share-requires-sync-F g c κs = search (sendable, memory_send, memory_sync) depth 20

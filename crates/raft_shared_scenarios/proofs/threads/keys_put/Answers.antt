@@ -6,10 +6,4 @@ pub open-requires-send-F : goal.open-requires-send-F
 open-requires-send-F g c κs = search (sendable, memory_send) depth 20
 
 pub open-requires-sync-F : goal.open-requires-sync-F
-open-requires-sync-F g c κs = search (sendable, memory_sync) depth 20
-
-pub last_keys-requires-send-F : goal.last_keys-requires-send-F
-last_keys-requires-send-F g c κs = search (sendable, memory_send) depth 20
-
-pub last_keys-requires-sync-F : goal.last_keys-requires-sync-F
-last_keys-requires-sync-F g c κs = search (sendable, memory_sync) depth 20
+open-requires-sync-F g c κs = search (sendable, memory_send, memory_sync) depth 20

@@ -1,9 +1,0 @@
-use denote.Param.Send.{sendable}
-use Rattle.raft_memory.proofs.Sent.{memory_send, memory_sync}
-use Rattle.raft_opening_scenarios.proofs.noise.each_broken_byte_is_met.Goals as goal
-
-pub wrong_place-requires-send-F : goal.wrong_place-requires-send-F
-wrong_place-requires-send-F c = λ κs. search (sendable, memory_send) depth 20
-
-pub wrong_place-requires-sync-F : goal.wrong_place-requires-sync-F
-wrong_place-requires-sync-F c = λ κs. search (sendable, memory_send, memory_sync) depth 20

@@ -1,9 +1,0 @@
-use denote.Param.Send.{sendable}
-use Rattle.raft_memory.proofs.Sent.{memory_send, memory_sync}
-use Rattle.raft_opening_scenarios.proofs.restarts.refused_read_cuts_nothing.Goals as goal
-
-pub wrong_call-requires-send-F : goal.wrong_call-requires-send-F
-wrong_call-requires-send-F c = λ κs. search (sendable, memory_send) depth 20
-
-pub wrong_call-requires-sync-F : goal.wrong_call-requires-sync-F
-wrong_call-requires-sync-F c = λ κs. search (sendable, memory_send, memory_sync) depth 20

@@ -1,0 +1,208 @@
+//! Folders that are opened in order and by workers, with the same result.
+
+use crate::stored::{HEADER_2, Stored};
+use raft_test_rows::{Change, EXPIRED, OPERATIONS, PURGES, Plan};
+
+/// Of each value of 1 KB a log file is full: eight files of the Append queue, and, once the first ones are rewritten, two
+/// of the Rewrite queue.
+const MANY: [Plan; 10] = [
+    Plan::Write(
+        &[
+            Change::Entries(3, 1, 4, b"x"),
+            Change::Put(1, b"a", &[1; 1000]),
+        ],
+        false,
+    ),
+    Plan::Write(
+        &[
+            Change::Entries(3, 3, 5, b"y"),
+            Change::Put(1, b"b", &[2; 1000]),
+        ],
+        false,
+    ),
+    Plan::RewriteAppend(Some(1), Some(2)),
+    Plan::Write(
+        &[
+            Change::Delete(1, b"a"),
+            Change::Compact(3, 3),
+            Change::Put(2, b"c", &[3; 1000]),
+        ],
+        false,
+    ),
+    Plan::RewriteAppend(Some(2), Some(2)),
+    Plan::Write(&[Change::Clean(1), Change::Put(1, b"b", &[4; 1000])], false),
+    Plan::Write(
+        &[
+            Change::Entries(3, 6, 7, b"z"),
+            Change::Put(2, b"d", &[5; 1000]),
+        ],
+        false,
+    ),
+    Plan::Write(&[Change::Clean(3), Change::Put(2, b"c", &[6; 1000])], false),
+    Plan::Write(
+        &[
+            Change::Entries(3, 1, 3, b"w"),
+            Change::Put(1, b"a", &[7; 1000]),
+        ],
+        false,
+    ),
+    Plan::Write(&[Change::Entries(3, 2, 4, b"v")], true),
+];
+
+const LOG_1: &str = "raft/0000000000000001.raftlog";
+
+const LOG_2: &str = "raft/0000000000000002.raftlog";
+
+const LOG_3: &str = "raft/0000000000000003.raftlog";
+
+const LOG_5: &str = "raft/0000000000000005.raftlog";
+
+pub(crate) const LOG_8: &str = "raft/0000000000000008.raftlog";
+
+const REWRITE_1: &str = "raft/0000000000000001.rewrite";
+
+// Records of entries without bytes in group 1, by Python's struct and zlib.
+
+/// Entries 1..=10, in file 1.
+const ONE_TO_TEN: &[u8] =
+    b"\x00\x00\x00\x00\x00\x00\x23\x00\x00\x00\x00\x00\x00\x00\x00\x10\x01\x01\x01\x0a\x01\x00\x00\x00\x00\x00\x00\x00\x00\x00\x00\x5c\xd7\x08\x05";
+
+/// Entries 5..=6, a compaction to 8, and entries 9..=10, in file 2.
+const FIVE_AND_NINE: &[u8] =
+    b"\x00\x00\x00\x00\x00\x00\x25\x00\x00\x00\x00\x00\x00\x00\x00\x10\x03\x01\x01\x02\x05\x00\x00\x01\x02\x02\x08\x01\x01\x02\x09\x00\x00\x4f\x94\xbd\x92";
+
+/// Entries 1..=2, in file 1.
+const ONE_AND_TWO: &[u8] =
+    b"\x00\x00\x00\x00\x00\x00\x1b\x00\x00\x00\x00\x00\x00\x00\x00\x10\x01\x01\x01\x02\x01\x00\x00\x62\x8c\xec\x66";
+
+/// Entries 5..=6, and then entries 3..=4, in file 2.
+const FIVE_AND_THREE: &[u8] =
+    b"\x00\x00\x00\x00\x00\x00\x21\x00\x00\x00\x00\x00\x00\x00\x00\x10\x02\x01\x01\x02\x05\x00\x00\x01\x01\x02\x03\x00\x00\xd1\x79\x12\x25";
+
+const COMPACTED: [Stored; 2] = [
+    (LOG_1, &[HEADER_2, ONE_TO_TEN]),
+    (LOG_2, &[HEADER_2, FIVE_AND_NINE]),
+];
+
+const HOLED: [Stored; 2] = [
+    (LOG_1, &[HEADER_2, ONE_AND_TWO]),
+    (LOG_2, &[HEADER_2, FIVE_AND_THREE]),
+];
+
+/// What fills a folder.
+pub(crate) enum Filling {
+    /// Operations; from this change on none is done.
+    Done(&'static [Plan], u64),
+    /// Files, of which each is a chunk of its own, and the indexes of the entries that group 1 then has.
+    Stored(&'static [Stored], &'static [u64]),
+}
+
+/// The eight files and two.
+pub(crate) const WHOLE: Filling = Filling::Done(&MANY, u64::MAX);
+
+/// A name, what fills the folder, the paths and places of bytes that are broken then, and whether the files crash in three
+/// ways, or all their bytes are left.
+pub(crate) struct Folder(
+    pub(crate) &'static str,
+    pub(crate) Filling,
+    pub(crate) &'static [(&'static str, usize)],
+    pub(crate) bool,
+);
+
+pub(crate) static FOLDERS: [Folder; 22] = [
+    Folder(
+        "operations, up to change 21",
+        Filling::Done(&OPERATIONS, 21),
+        &[],
+        true,
+    ),
+    Folder(
+        "operations, up to change 47",
+        Filling::Done(&OPERATIONS, 47),
+        &[],
+        true,
+    ),
+    Folder(
+        "operations",
+        Filling::Done(&OPERATIONS, u64::MAX),
+        &[],
+        true,
+    ),
+    Folder(
+        "purges, up to change 21",
+        Filling::Done(&PURGES, 21),
+        &[],
+        true,
+    ),
+    Folder(
+        "purges, up to change 47",
+        Filling::Done(&PURGES, 47),
+        &[],
+        true,
+    ),
+    Folder("purges", Filling::Done(&PURGES, u64::MAX), &[], true),
+    Folder(
+        "purges by watermarks, up to change 21",
+        Filling::Done(&EXPIRED, 21),
+        &[],
+        true,
+    ),
+    Folder(
+        "purges by watermarks, up to change 47",
+        Filling::Done(&EXPIRED, 47),
+        &[],
+        true,
+    ),
+    Folder(
+        "purges by watermarks",
+        Filling::Done(&EXPIRED, u64::MAX),
+        &[],
+        true,
+    ),
+    Folder(
+        "many files, up to change 21",
+        Filling::Done(&MANY, 21),
+        &[],
+        true,
+    ),
+    Folder(
+        "many files, up to change 47",
+        Filling::Done(&MANY, 47),
+        &[],
+        true,
+    ),
+    Folder("many files", Filling::Done(&MANY, u64::MAX), &[], true),
+    // The same files with bytes broken.
+    Folder("none", WHOLE, &[], false),
+    Folder("a header of the first file", WHOLE, &[(LOG_1, 3)], false),
+    Folder("entries of the first file", WHOLE, &[(LOG_1, 86)], false),
+    Folder("a record in the middle", WHOLE, &[(LOG_3, 600)], false),
+    Folder(
+        "a header and a record in the middle",
+        WHOLE,
+        &[(LOG_3, 60), (LOG_5, 600)],
+        false,
+    ),
+    Folder("the last file", WHOLE, &[(LOG_8, 90)], false),
+    Folder("the Rewrite queue", WHOLE, &[(REWRITE_1, 90)], false),
+    Folder(
+        "both queues",
+        WHOLE,
+        &[(LOG_1, 600), (LOG_8, 3), (REWRITE_1, 3)],
+        false,
+    ),
+    // What the newer of two files leaves of the older one: a compaction between entries; entries after a hole, and
+    // others before them.
+    Folder(
+        "a compaction between entries",
+        Filling::Stored(&COMPACTED, &[9, 10]),
+        &[],
+        false,
+    ),
+    Folder(
+        "entries after a hole",
+        Filling::Stored(&HOLED, &[3, 4]),
+        &[],
+        false,
+    ),
+];

@@ -1,0 +1,97 @@
+//! Lists whose dropped files are used again, stopped at each call that changes files, and then crashed in many ways.
+
+use crate::bench::{Bench, Work, work_at};
+use crate::lists::{LISTS, List};
+use raft_memory::MemoryFileSystem;
+use raft_test_rows::{Failing, Faulty, Left};
+use std::alloc::{AllocError, Global};
+use std::test::Fail;
+
+const MAX_CALLS: u64 = 400;
+
+// All that was not synced, nothing of it, and of the touched bytes the first ones, with the others as zeros or as ones.
+fn ways_of(alloc: Global, kept: usize) -> Result<Vec<Left>, AllocError> {
+    let mut ways = vec![in alloc; Left::All, Left::Synced]?;
+    for kept in 0..kept {
+        ways.push(Left::Torn(kept, 0))?;
+        ways.push(Left::Torn(kept, 255))?;
+    }
+    Ok(ways)
+}
+
+// With the changes from the nth on failing: whether there were so many, or nothing if a crash leaves what may not be
+// found.
+fn stop_at<F: Faulty>(
+    alloc: Global,
+    bench: &mut Bench<F>,
+    work: &Work,
+    nth: u64,
+    ways: &[Left],
+) -> Option<bool> {
+    if !bench.run(alloc, work, Some(Failing::From(nth))) {
+        return None;
+    }
+    let has_failed = bench.has_failed();
+    if bench.finds_allowed(alloc, work, ways) {
+        Some(has_failed)
+    } else {
+        None
+    }
+}
+
+// The first stop that doesn't come, if nothing is wrong up to there.
+fn first_missing<F: Faulty>(
+    alloc: Global,
+    bench: &mut Bench<F>,
+    work: &Work,
+    ways: &[Left],
+) -> Option<u64> {
+    for nth in 1..MAX_CALLS {
+        if !stop_at(alloc, bench, work, nth, ways)? {
+            return Some(nth);
+        }
+    }
+    None
+}
+
+// Whether enough stops come, and nothing is wrong after one.
+fn stops<F: Faulty>(alloc: Global, bench: &mut Bench<F>, list: &List, ways: &[Left]) -> bool {
+    match work_at(alloc, bench, list) {
+        Some(work) => match first_missing(alloc, bench, &work, ways) {
+            Some(nth) => nth > list.changes,
+            None => false,
+        },
+        None => false,
+    }
+}
+
+fn stops_rightly<F: Faulty>(alloc: Global, bench: &mut Bench<F>, list: &List) -> bool {
+    match ways_of(alloc, list.kept) {
+        Ok(ways) => stops(alloc, bench, list, &ways),
+        Err(_fault) => false,
+    }
+}
+
+fn wrong_list<F: Faulty>(alloc: Global, bench: &mut Bench<F>) -> Option<&'static str> {
+    for list in &LISTS {
+        if list.kept > 0 && !stops_rightly(alloc, bench, list) {
+            return Some(list.name);
+        }
+    }
+    None
+}
+
+fn wrong_stop<F: Faulty>(alloc: Global, files: F) -> Option<&'static str> {
+    let mut bench = Bench::new(alloc, files);
+    let wrong = wrong_list(alloc, &mut bench);
+    bench.end();
+    wrong
+}
+
+#[test]
+fn recycling_may_stop_at_each_change(rt: HostRuntime) -> Result<(), Fail> {
+    match wrong_stop(rt.alloc(), MemoryFileSystem::new(rt.alloc())) {
+        None => Ok(()),
+        Some(name) => Err(Fail::new(format_args!("{name}"))),
+    }
+}
