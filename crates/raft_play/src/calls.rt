@@ -92,6 +92,11 @@ fn op_of(line: &mut Line, asked: OpLine) -> Op {
     }
 }
 
+fn done<F: FileSystem>(line: &mut Line, engine: &mut Engine<F>, asked: OpLine) -> Outcome {
+    let op = op_of(line, asked);
+    step(line.alloc, engine, &op)
+}
+
 // The group from which the next short call of a purge goes on.
 fn goes_on(next: Result<Option<u64>, Fault>) -> Outcome {
     match next {
@@ -115,11 +120,22 @@ fn outcome_of<F: FileSystem>(
             goes_on(engine.must_rewrite_append_groups(file, from, budget))
         }
         CallLine::RenewGroups => goes_on(engine.must_rewrite_rewrite_groups(from, budget)),
-        CallLine::Op(asked) => step(line.alloc, engine, &op_of(line, asked)),
+        CallLine::Op(asked) => done(line, engine, asked),
     }
 }
 
-/// Calls an engine, and says what that came to, if it left the batch as it should.
+// Says what a call came to, if it left the batch as it should.
+fn tell(line: &mut Line, writing: &mut Writing, had_items: bool, outcome: &Outcome) {
+    if !writing.has_kept(had_items, outcome) {
+        return line.said.say("another batch");
+    }
+    if let Outcome::Sizes(_) = outcome {
+        *writing = Writing::new(line.alloc);
+    }
+    line.outcome(outcome);
+}
+
+/// Calls an engine, and says what that came to.
 pub(crate) fn answer<F: FileSystem>(
     line: &mut Line,
     writing: &mut Writing,
@@ -128,11 +144,5 @@ pub(crate) fn answer<F: FileSystem>(
 ) {
     let had_items = !writing.batch.is_empty();
     let outcome = outcome_of(line, writing, engine, asked);
-    if !writing.has_kept(had_items, &outcome) {
-        return line.said.say("another batch");
-    }
-    if let Outcome::Sizes(_) = &outcome {
-        *writing = Writing::new(line.alloc);
-    }
-    line.outcome(&outcome);
+    tell(line, writing, had_items, &outcome);
 }

@@ -118,6 +118,6 @@ fn items_at<F: FileSystem>(line: &mut Line, files: &mut F, asked: ItemsLine) -> 
 pub(crate) fn say_items<F: FileSystem>(line: &mut Line, files: &mut F, asked: ItemsLine) {
     line.said.say("items");
     if let Err(fault) = items_at(line, files, asked) {
-        line.refuse(&fault);
+        line.refuse(fault);
     }
 }

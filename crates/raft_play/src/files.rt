@@ -95,7 +95,7 @@ fn say_fork<F: FileSystem>(line: &mut Line, config: &Config, files: &mut F) {
             line.said.paths(" ", &details.copied);
             line.said.paths(" linked ", &details.symlinked);
         }
-        Err(fault) => line.refuse(&fault),
+        Err(fault) => line.refuse(fault),
     }
 }
 
@@ -111,7 +111,7 @@ fn agree<F: Faulty>(line: &mut Line, files: &F) {
     };
     match told(line.alloc, files, mode) {
         Ok(text) => line.said.say(text.as_str()),
-        Err(fault) => line.refuse(&fault),
+        Err(fault) => line.refuse(fault),
     }
 }
 

@@ -218,8 +218,13 @@ impl Line {
         self.is_bad = true;
     }
 
-    pub(crate) fn refuse(&mut self, fault: &Fault) {
-        self.refusal = Some(fault.code());
+    pub(crate) fn refuse(&mut self, fault: Fault) {
+        self.refused(fault.code());
+    }
+
+    /// .. for a fault of this code.
+    pub(crate) fn refused(&mut self, code: u8) {
+        self.refusal = Some(code);
     }
 
     pub(crate) fn refuse_files(&mut self, fault: FsFault) {
@@ -238,7 +243,7 @@ impl Line {
     pub(crate) fn done(&mut self, done: Result<(), Fault>) {
         match done {
             Ok(()) => self.said.say("ok"),
-            Err(fault) => self.refuse(&fault),
+            Err(fault) => self.refuse(fault),
         }
     }
 

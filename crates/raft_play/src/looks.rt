@@ -7,7 +7,7 @@ use crate::plain::Plain;
 use crate::said::Said;
 use raft_env::FileSystem;
 use raft_records::{Fault, LogQueue, Message};
-use raft_test_rows::{Engine, Outcome, TextEntry, state_of};
+use raft_test_rows::{Engine, TextEntry, state_of};
 use std::alloc::{AllocError, Global};
 
 /// The keys and values that a scan hands over, until there are so many.
@@ -41,7 +41,7 @@ impl Handed {
                 line.said.say("pairs");
                 line.said.add(&self.said);
             }
-            Err(fault) => line.refuse(&fault),
+            Err(fault) => line.refuse(fault),
         }
     }
 }
@@ -116,7 +116,7 @@ fn entry_at<F: FileSystem>(line: &mut Line, engine: &mut Engine<F>) -> Result<()
     let (group, index) = line.pair(0);
     let copied = engine.get_entry::<TextEntry>(group, index)?;
     if lends(line.alloc, engine, group, index, copied.as_ref())? {
-        line.outcome(&Outcome::Entry(Ok(copied)));
+        line.said.text_entry(copied.as_ref());
     } else {
         line.said.say("lent differs");
     }
@@ -138,34 +138,36 @@ fn fetch<F: FileSystem>(line: &mut Line, engine: &mut Engine<F>) -> Result<(), F
     Ok(())
 }
 
-fn message_at<F: FileSystem>(line: &mut Line, engine: &Engine<F>) {
-    let message = engine.get_message::<TextEntry>(line.number(0), line.bytes(0));
-    line.outcome(&Outcome::Entry(message));
+fn message_at<F: FileSystem>(line: &mut Line, engine: &Engine<F>) -> Result<(), Fault> {
+    let message = engine.get_message::<TextEntry>(line.number(0), line.bytes(0))?;
+    line.said.text_entry(message.as_ref());
+    Ok(())
 }
 
-// The bytes of a message of any bytes.
-fn plain(line: &mut Line, message: Result<Option<Plain>, Fault>) {
+// A message of any bytes.
+fn plain(said: &mut Said, message: Option<&Plain>) {
     match message {
-        Ok(Some(message)) => line.said.spell("value ", &message.bytes),
-        Ok(None) => line.said.say("none"),
-        Err(fault) => line.refuse(&fault),
+        Some(message) => said.spell("value ", &message.bytes),
+        None => said.say("none"),
     }
 }
 
-fn plain_entry<F: FileSystem>(line: &mut Line, engine: &mut Engine<F>) {
-    let entry = engine.get_entry::<Plain>(line.number(0), 0);
-    plain(line, entry);
+fn plain_entry<F: FileSystem>(line: &mut Line, engine: &mut Engine<F>) -> Result<(), Fault> {
+    let entry = engine.get_entry::<Plain>(line.number(0), 0)?;
+    plain(&mut line.said, entry.as_ref());
+    Ok(())
 }
 
-fn plain_message<F: FileSystem>(line: &mut Line, engine: &Engine<F>) {
-    let message = engine.get_message::<Plain>(line.number(0), line.bytes(0));
-    plain(line, message);
+fn plain_message<F: FileSystem>(line: &mut Line, engine: &Engine<F>) -> Result<(), Fault> {
+    let message = engine.get_message::<Plain>(line.number(0), line.bytes(0))?;
+    plain(&mut line.said, message.as_ref());
+    Ok(())
 }
 
 fn found<F: FileSystem>(line: &mut Line, engine: &mut Engine<F>) {
     match engine.image() {
         Ok(image) => line.said.state(&state_of(&image)),
-        Err(fault) => line.refuse(&fault),
+        Err(fault) => line.refuse(fault),
     }
 }
 
@@ -174,12 +176,12 @@ fn entry<F: FileSystem>(line: &mut Line, engine: &mut Engine<F>, asked: EntryLin
         EntryLine::Entry => entry_at(line, engine),
         EntryLine::Fetch => fetch(line, engine),
         EntryLine::Whole => whole(line, engine),
-        EntryLine::Message => return message_at(line, engine),
-        EntryLine::PlainEntry => return plain_entry(line, engine),
-        EntryLine::PlainMessage => return plain_message(line, engine),
+        EntryLine::Message => message_at(line, engine),
+        EntryLine::PlainEntry => plain_entry(line, engine),
+        EntryLine::PlainMessage => plain_message(line, engine),
     };
     if let Err(fault) = looked {
-        line.refuse(&fault);
+        line.refuse(fault);
     }
 }
 

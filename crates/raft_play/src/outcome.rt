@@ -3,7 +3,7 @@
 use crate::line::Line;
 use crate::said::Said;
 use raft_records::Fault;
-use raft_test_rows::{EMPTY, Outcome, State, fault_of};
+use raft_test_rows::{EMPTY, Outcome, State, TextEntry, fault_of};
 
 const PLACES: [&str; 13] = [
     "a", "b", "c", "d", "0", "1", "2", "3", "4", "5", "6", "7", "other",
@@ -24,7 +24,7 @@ impl Line {
     /// Says what a call came to.
     pub(crate) fn outcome(&mut self, outcome: &Outcome) {
         if let Some(fault) = fault_of(outcome) {
-            self.refuse(fault);
+            self.refused(fault.code());
         } else if let Some(number) = number_in(outcome) {
             self.said.number(number);
         } else {
@@ -39,7 +39,7 @@ impl Said {
         match outcome {
             Outcome::Sizes(Ok(sizes)) => self.sizes(sizes),
             Outcome::Value(Ok(Some(value))) => self.spell("value ", value),
-            Outcome::Entry(Ok(Some(entry))) => self.entry(entry.index, &entry.word),
+            Outcome::Entry(Ok(entry)) => self.text_entry(entry.as_ref()),
             Outcome::Groups(Ok(groups)) => self.groups("groups", groups),
             Outcome::ToCompact(Ok(groups)) => self.groups("ask", groups),
             Outcome::Done(_) => self.say("ok"),
@@ -47,9 +47,14 @@ impl Said {
         }
     }
 
-    fn entry(&mut self, index: u64, word: &[u8]) {
-        self.with("entry ", index);
-        self.spell(" ", word);
+    pub(crate) fn text_entry(&mut self, entry: Option<&TextEntry>) {
+        match entry {
+            Some(entry) => {
+                self.with("entry ", entry.index);
+                self.spell(" ", &entry.word);
+            }
+            None => self.say("none"),
+        }
     }
 
     fn groups(&mut self, front: &str, groups: &[u64]) {

@@ -91,7 +91,7 @@ fn fail_nth<F: Faulty>(line: &mut Line, held: &mut Held<F>) {
 // Says what the last opening or closing came to.
 fn came_to<F: Faulty>(line: &mut Line, held: &Held<F>) {
     match held.fault() {
-        Some(fault) => line.refuse(fault),
+        Some(fault) => line.refused(fault.code()),
         None => line.said.say("ok"),
     }
 }
@@ -112,7 +112,7 @@ fn open<F: Faulty>(line: &mut Line, config: &Config, held: &mut Held<F>, mode: R
             held.open_with(line.alloc, config);
             came_to(line, held);
         }
-        Err(_) => line.refuse(&Fault::Memory),
+        Err(_) => line.refuse(Fault::Memory),
     }
 }
 
@@ -160,7 +160,7 @@ fn set(line: &mut Line, config: &mut Config, made: Result<Config, Fault>) {
             *config = changed;
             line.said.say("ok");
         }
-        Err(fault) => line.refuse(&fault),
+        Err(fault) => line.refuse(fault),
     }
 }
 
