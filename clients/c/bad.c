@@ -232,6 +232,19 @@ static void openings(const char *folder) {
     foreign(folder);
 }
 
+/* Arguments that are in the buffer of the result, which is written over. */
+static void within(raftlog *log) {
+    raftlog_batch *batch = raftlog_batch_new();
+    raftlog_bytes bytes = {0};
+    CHECK(!raftlog_batch_put(batch, 2, "v", 1, "v", 1) && !raftlog_write(log, batch, true));
+    CHECK(!raftlog_get(log, 2, "v", 1, &bytes) && bytes.len == 1);
+    CHECK(!raftlog_batch_put(batch, 2, bytes.data, bytes.len, bytes.data, bytes.len) && !raftlog_write(log, batch, true));
+    CHECK(!raftlog_get(log, 2, bytes.data, bytes.len, &bytes) && bytes.len == 1 && *bytes.data == 'v');
+    CHECK(!raftlog_batch_clean(batch, 2) && !raftlog_write(log, batch, true));
+    raftlog_bytes_free(&bytes);
+    raftlog_batch_free(batch);
+}
+
 static void refused(raftlog *log) {
     put_first(log);
     nothing(log);
@@ -240,6 +253,7 @@ static void refused(raftlog *log) {
     bytes_of_none(log);
     bounds(log);
     sizes(log);
+    within(log);
 }
 
 int main(int argc, char **argv) {

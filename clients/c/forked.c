@@ -1,6 +1,7 @@
 /* Logs of a process that is forked, and threads that are cancelled: `forked FOLDER`. */
 #include "keys.h"
 
+#include <fcntl.h>
 #include <pthread.h>
 #include <signal.h>
 #include <stdatomic.h>
@@ -102,6 +103,22 @@ static void living_child(const char *folder) {
     raftlog *log = open_with(folder, SMALL_FILES);
     pid_t child = fork();
     if (!child) for (;;) pause();
+    CHECK(child > 0 && raftlog_close(log) == 0);
+    log = open_with(folder, SMALL_FILES);
+    CHECK(!kill(child, SIGKILL) && status_of(child) && raftlog_close(log) == 0);
+
+    /* Nor does a program that the child started. */
+    log = open_with(folder, SMALL_FILES);
+    int started[2];
+    CHECK(!pipe2(started, O_CLOEXEC));
+    child = fork();
+    if (!child) {
+        execlp("sleep", "sleep", "60", NULL);
+        _exit(1);
+    }
+    /* It reads the end once the other program has begun. */
+    close(started[1]);
+    CHECK(read(started[0], text, 1) == 0 && !close(started[0]));
     CHECK(child > 0 && raftlog_close(log) == 0);
     log = open_with(folder, SMALL_FILES);
     CHECK(!kill(child, SIGKILL) && status_of(child) && raftlog_close(log) == 0);

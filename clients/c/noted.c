@@ -120,6 +120,20 @@ static void lose(void) {
     }
 }
 
+/* What was missing at an earlier opening is reported until it is accepted, whatever the log does. */
+static void is_remembered(void) {
+    raftlog_lost lost[ROOM];
+    char text[TEXT_ROOM];
+    raftlog *log;
+    for (int opening = 0; opening < 2; opening++) {
+        CHECK(lost_in(DELETING, lost) >= 1 && lost->kind == RAFTLOG_LOST_BEFORE && !lost->is_rewrite);
+        work(DELETING);
+    }
+    CHECK(raftlog_open_whole(folder, DELETING, &log, text, sizeof text) == RAFTLOG_LOST && !log);
+    CHECK(strstr(text, "missing at an earlier opening"));
+    CHECK(raftlog_accept_missing(folder, text, sizeof text) == 0 && lost_in(DELETING, NULL) == 0);
+}
+
 /* A file with a greater number is put there; and a purge drops what was missing. */
 static void stray(void) {
     raftlog_lost lost[ROOM];
@@ -137,7 +151,31 @@ static void stray(void) {
     raftlog *log = open_with(folder, DELETING);
     CHECK(raftlog_missing(log, lost, ROOM, sizeof *lost) == 1 && is_lost(lost, RAFTLOG_FILE_MISSING, first, first));
     CHECK(raftlog_must_rewrite_append_queue(log, NULL) == 0 && raftlog_close(log) == 0);
-    CHECK(lost_in(DELETING, NULL) == 0);
+    is_remembered();
+}
+
+/* A missing file is put back: nothing is lost. A next file gets its number, also if all were gone: that isn't forgotten. */
+static void put_back(void) {
+    raftlog_lost lost[ROOM];
+    uint64_t first, last;
+    char name[TEXT_ROOM], kept[TEXT_ROOM];
+    snprintf(kept, sizeof kept, "%s.kept", folder);
+    for (int is_all = 0; is_all < 2; is_all++) {
+        empty();
+        work(DELETING);
+        find(&first, &last);
+        name_of(name, last);
+        CHECK(!rename(name, kept));
+        CHECK(lost_in(DELETING, lost) == 1 && is_lost(lost, RAFTLOG_FILE_MISSING, last, last));
+        CHECK(!rename(kept, name));
+        CHECK(lost_in(DELETING, NULL) == 0);
+        for (uint64_t number = is_all ? first : last; number <= last; number++) take_away(number);
+        raftlog *log = open_with(folder, DELETING);
+        CHECK(raftlog_missing(log, lost, ROOM, sizeof *lost) == 1 && lost->kind == RAFTLOG_FILE_MISSING);
+        for (int i = 0; i < MANY; i++) CHECK(put_key(log, 'k', i) == 0);
+        CHECK(raftlog_close(log) == 0);
+        is_remembered();
+    }
 }
 
 /* Another program makes files and deletes others: the note is stale, and the opening writes one. */
@@ -409,6 +447,7 @@ int main(int argc, char **argv) {
     int kills = kill_at_each(RECYCLING) + kill_at_each(DELETING) + kill_at_each(SPILLED);
     lose();
     stray();
+    put_back();
     is_stale();
     is_unknown();
     is_broken();

@@ -34,9 +34,9 @@ void parts_let_file_go(raftlog *log) {
     log->path = NULL;
 }
 
-/* Opens the file at a path from the folder to be changed, where it isn't the one that is open. */
+/* Opens the file at a path from the folder to be changed, if it isn't the one that is open. */
 static int open_file(raftlog *log, const char *path) {
-    if (log->path && !strcmp(log->path, path)) return 0;
+    if (path == log->path) return 0;
     parts_let_file_go(log);
     const char *name;
     int in = parts_folder_of(log, path, &name);
@@ -45,6 +45,7 @@ static int open_file(raftlog *log, const char *path) {
     int error = log->file < 0 ? errno : 0;
     if (!error) heap_take_up(&log->behind, &log->heap, log->file);
     if (!error && !(log->path = strdup(path))) error = ENOMEM;
+    log->path_len = error ? 0 : strlen(path);
     return error;
 }
 
@@ -118,8 +119,8 @@ static void count_names(struct parts_counts *counts, int kind, const char *last,
     parts_add(&counts->files, (uint64_t)(int64_t)more);
 }
 
-/* Carries out what is done to names. A name that goes has left the note before: a deletion's by `leave_deleted`, a
- * renaming's here. A new name is noted after it is there. */
+/* Carries out what is done to names. Before a file is renamed the note no longer needs it; `leave_deleted` has done so for
+ * a deletion. A new name is noted after the file has it. */
 static int order_names(raftlog *log, int kind, const char *path, const char *to) {
     parts_let_file_go(log);
     int error = parts_keep_lock(log);
@@ -131,6 +132,7 @@ static int order_names(raftlog *log, int kind, const char *path, const char *to)
     int other = in < 0 ? in : parts_folder_of(log, kind == RENAME ? to : path, &next);
     if (other < 0) return errno;
     bool had_place = parts_has_name(other, next);
+    if (kind != DELETE) parts_replace_span(log, kind == RENAME ? to : path);
     if (kind == CREATE) error = parts_make_file(in, name);
     else if (kind == DELETE) error = parts_delete_file(in, name);
     else error = parts_rename_file(in, name, other, next);
@@ -152,6 +154,13 @@ static const char *text_of(char *room, const uint8_t *bytes, size_t len) {
     memcpy(room, bytes, len);
     room[len] = 0;
     return room;
+}
+
+/* The path of an order, ended by a NUL. Of a change of the open file it is the log's own text: most orders are. */
+static inline const char *path_of(const raftlog *log, const struct order *order, char room[PARTS_PATH_ROOM]) {
+    bool is_open = order->kind >= WRITE && log->path && order->path_len == log->path_len
+                   && !memcmp(order->path, log->path, log->path_len);
+    return is_open ? log->path : text_of(room, order->path, order->path_len);
 }
 
 static int carry_out(raftlog *log, const struct order *order, const char *path) {
@@ -234,6 +243,8 @@ static void join(const raftlog *log, size_t *place, struct order *write) {
 static int leave_deleted(raftlog *log, size_t place, const char *path) {
     struct order next;
     char room[PARTS_PATH_ROOM], last[PARTS_PATH_ROOM];
+    int error = parts_keep_lock(log);
+    if (error) return error;
     strcpy(last, path);
     while (read_order(log, &place, &next) && next.kind == DELETE) {
         const char *other = text_of(room, next.path, next.path_len);
@@ -248,7 +259,7 @@ static int obey_one(raftlog *log, size_t *place) {
     char room[PARTS_PATH_ROOM];
     if (!read_order(log, place, &order)) return EINVAL;
     if (order.kind == WRITE && *place < log->given) join(log, place, &order);
-    const char *path = text_of(room, order.path, order.path_len);
+    const char *path = path_of(log, &order, room);
     int error = order.kind == DELETE ? leave_deleted(log, *place, path) : 0;
     if (!error) error = carry_out(log, &order, path);
     if (error) break_at(log, kind_text(order.kind), path, error);

@@ -145,7 +145,8 @@ struct raftlog {
     bool is_opening;
     raftlog_cut *cuts; /* that the opening made; their paths are the log's */
     size_t cut_count, cut_room;
-    char *path; /* of the file that is open to be changed, from the folder */
+    char *path; /* of the file that is open to be changed, from the folder; NULL: none is */
+    size_t path_len;
     int file;
     struct heap heap;        /* the blocks that the proved part keeps the files in */
     struct heap_file behind; /* the open file, for its block */
@@ -300,6 +301,8 @@ int parts_find_span(raftlog *log, const char *path);
 int parts_judge_spans(raftlog *log);
 /* Says which file is lost, if one is. */
 bool parts_tell_lost(const raftlog *log, char *text, size_t room);
+/* Before a file is made at a path. */
+void parts_replace_span(raftlog *log, const char *path);
 /* After a file was made at a path. A refused note leaves the one before, which is true. */
 void parts_add_span(raftlog *log, const char *path);
 /* Before the file at a path, and all of its queue with smaller numbers, are deleted or get other names; of the last file

@@ -22,9 +22,9 @@
  * done; once it has begun it ends with its result. A read cannot be cancelled. Asynchronous cancellation is not
  * supported.
  *
- * Processes. In a child that was forked each call on a log of the parent fails as RAFTLOG_FAILED and does nothing, and
- * `raftlog_close` there frees memory alone. The child does not keep the parent's folder locked. Its own logs are as
- * any.
+ * Processes. In a child that was forked each call on a log of the parent fails as RAFTLOG_FAILED and does nothing.
+ * `raftlog_close` there frees only memory, and `raftlog_missing` and `raftlog_cuts` return what the parent's opening
+ * found. The child does not keep the parent's folder locked. Its own logs are as any.
  *
  * Folders. The log holds its folder open until the close, and reaches its files through it. So it continues in its own
  * folder if the folder is moved, if another one gets its name, or if the program changes its working directory. A link
@@ -208,7 +208,10 @@ enum {
     /* A file of this number exists, and does not follow on the log's files. An opening reads it, and not those before. */
     RAFTLOG_FILE_STRAY = 2,
     /* Another program wrote to the log after the note of these numbers: whether a file is missing isn't known. */
-    RAFTLOG_NOTE_STALE = 3
+    RAFTLOG_NOTE_STALE = 3,
+    /* A file was missing at an earlier opening, and cannot be put back: a next file got its number, or a purge dropped
+     * files after it. Which file it was is not known any more: the numbers are those of the note. */
+    RAFTLOG_LOST_BEFORE = 4
 };
 
 typedef struct {
@@ -219,11 +222,12 @@ typedef struct {
 
 /* Returns how many such facts the opening found, and stores the first of them, at most `room`, in `lost`, which may be
  * NULL if `room` is 0. `size` is sizeof(raftlog_lost), as for `raftlog_stats`. After a crash or a kill there are none.
- * Later openings report them too, until a next file gets the number, a purge drops files after it, or the loss is
- * accepted. Without a note nothing is reported. */
+ * Later openings report them too, until the files are put back or the loss is accepted. Without a note nothing is
+ * reported. */
 size_t raftlog_missing(raftlog *log, raftlog_lost *lost, size_t room, size_t size);
 
-/* As `raftlog_open`, but fails as RAFTLOG_LOST if a file is missing or a stray. It has changed no log file then. */
+/* As `raftlog_open`, but fails as RAFTLOG_LOST if a file is missing or was, or is a stray. It has changed no log file
+ * then. */
 int raftlog_open_whole(const char *folder, const char *settings, raftlog **out, char *text, size_t room);
 
 /* Accepts what is missing in a folder that nobody has open: it removes the note. The next opening writes one of the files

@@ -131,14 +131,6 @@ static bool take_more(raftlog *log, struct round *round) {
     return round->last != last;
 }
 
-/* The first of those that wait, and those behind it. Where nobody led when it came, it is the only
- * one. */
-static inline struct round take(raftlog *log, struct parts_change *first) {
-    struct round round = {first, first, 1, size_of(first), 0, 0};
-    if (first->older) take_more(log, &round);
-    return round;
-}
-
 /* ---- a round */
 
 static void write_once(raft_c_handle *handle, const struct parts_change *change, bool sync) {
@@ -367,7 +359,9 @@ static void answer(const struct round *round) {
 /* Leads a round, whose first change is this thread's own. Who is answered may come back before the
  * next leader wakes, and be of its round: so that one is told last. */
 static void lead(raftlog *log, struct parts_change *mine) {
-    struct round round = take(log, mine);
+    struct round round = {mine, mine, 1, size_of(mine), 0, 0};
+    /* If nobody led when it came, it is the only one. */
+    if (mine->older) take_more(log, &round);
     carry_out(log, &round);
     count(log, &round);
     parts_add(&log->done, 1);

@@ -18,13 +18,14 @@
 #define MAGIC "RAFT-LOG-SPANS-1"
 
 enum { APPEND, REWRITE, QUEUES };
-enum { SLOT = 512, BODY = 508, MAGIC_LEN = 16, HEAD = 72 };
+enum { SLOT = 512, BODY = 508, MAGIC_LEN = 16, HEAD = 72, SPILL_ROOM = BODY - HEAD + 1 };
 
 /* No file of a queue with a smaller number than the first is needed, and one with the last number existed (0: none did).
- * If a purge was deleting files, the least first, the first ones may be missing. */
+ * If a purge was deleting files, the least first, the first ones may be missing. If a needed file was missing at an opening,
+ * and then a new file got its number or a purge passed it, it is lost. */
 struct span {
     uint64_t first, last;
-    bool is_dropping;
+    bool is_dropping, has_lost;
 };
 
 /* Numbers of files, in ascending order when they are compared with the note. */
@@ -37,7 +38,7 @@ struct parts_spans {
     int file;      /* -1: there is no note */
     bool is_silent; /* no note is written: something else has its name, or no span is known */
     struct span queues[QUEUES];
-    char spill[SLOT - HEAD]; /* the second folder's path from the log's; empty if there is none */
+    char spill[SPILL_ROOM]; /* the second folder's path from the log's; empty if there is none */
     uint64_t count;
     int synced; /* the slot of the note that a crash leaves */
     struct numbers found[QUEUES];
@@ -45,7 +46,7 @@ struct parts_spans {
     size_t lost_count, lost_room;
 };
 
-static const struct span empty = {1, 0, false};
+static const struct span empty = {1, 0, false, false};
 
 /* ---- bytes */
 
@@ -57,8 +58,9 @@ static uint8_t *put_number(uint8_t *at, uint64_t number) {
 
 static void fill(const struct parts_spans *spans, uint64_t count, uint8_t slot[SLOT]) {
     const struct span *append = &spans->queues[APPEND], *rewrite = &spans->queues[REWRITE];
-    uint64_t flags = (uint64_t)append->is_dropping | (uint64_t)rewrite->is_dropping << 1;
-    size_t len = strlen(spans->spill) <= BODY - HEAD ? strlen(spans->spill) : 0;
+    uint64_t flags = (uint64_t)append->is_dropping | (uint64_t)rewrite->is_dropping << 1
+                     | (uint64_t)append->has_lost << 2 | (uint64_t)rewrite->has_lost << 3;
+    size_t len = strlen(spans->spill);
     uint64_t numbers[] = {count, append->first, append->last, rewrite->first, rewrite->last, flags, len};
     memset(slot, 0, SLOT);
     memcpy(slot, MAGIC, MAGIC_LEN);
@@ -79,8 +81,8 @@ static void take(struct parts_spans *spans, int place, const uint8_t slot[SLOT])
     if (!is_note || numbers[0] <= spans->count) return;
     spans->count = numbers[0];
     spans->synced = place;
-    spans->queues[APPEND] = (struct span){numbers[1], numbers[2], numbers[5] & 1};
-    spans->queues[REWRITE] = (struct span){numbers[3], numbers[4], numbers[5] & 2};
+    spans->queues[APPEND] = (struct span){numbers[1], numbers[2], numbers[5] & 1, numbers[5] & 4};
+    spans->queues[REWRITE] = (struct span){numbers[3], numbers[4], numbers[5] & 2, numbers[5] & 8};
     memcpy(spans->spill, slot + HEAD, numbers[6]);
     spans->spill[numbers[6]] = 0;
 }
@@ -140,8 +142,8 @@ static int report(struct parts_spans *spans, int queue) {
     const struct span *span = &spans->queues[queue];
     const struct numbers *found = &spans->found[queue];
     uint64_t end = end_of(span, found), next = front_of(span, found);
-    int error = 0;
     if (is_stale(span, found, end)) return add_lost(spans, RAFTLOG_NOTE_STALE, queue, span->first, span->last);
+    int error = span->has_lost ? add_lost(spans, RAFTLOG_LOST_BEFORE, queue, span->first, span->last) : 0;
     for (size_t i = 0; i < found->count && !error; i++) {
         uint64_t number = found->all[i];
         if (number > end) error = add_lost(spans, RAFTLOG_FILE_STRAY, queue, number, number);
@@ -166,14 +168,15 @@ static struct span span_of(const struct numbers *found) {
  * known: a purge may have left the files before it, or someone else may have deleted it. */
 static bool find_span(const struct span *noted, const struct numbers *found, struct span *span) {
     uint64_t end = end_of(noted, found);
-    *span = (struct span){front_of(noted, found), end, false};
+    *span = (struct span){front_of(noted, found), end, false, noted->has_lost};
     if (!is_stale(noted, found, end)) return true;
     *span = span_of(found);
     return span->first == found->all[0];
 }
 
 static bool are_same(const struct span *one, const struct span *other) {
-    return one->first == other->first && one->last == other->last && one->is_dropping == other->is_dropping;
+    return one->first == other->first && one->last == other->last && one->is_dropping == other->is_dropping
+           && one->has_lost == other->has_lost;
 }
 
 /* ---- the file */
@@ -353,14 +356,38 @@ int parts_judge_spans(raftlog *log) {
     return 0;
 }
 
+/* Whether a file was missing at the opening, of a queue and between two numbers. */
+static bool was_missing(const struct parts_spans *spans, int queue, uint64_t first, uint64_t last) {
+    for (size_t i = 0; i < spans->lost_count; i++) {
+        const raftlog_lost *lost = &spans->lost[i];
+        bool is_of = lost->kind == RAFTLOG_FILE_MISSING && lost->is_rewrite == (queue == REWRITE);
+        if (is_of && lost->first <= last && lost->last >= first) return true;
+    }
+    return false;
+}
+
+/* A missing file can't be put back once a file has its number, or a later missing one's. */
+void parts_replace_span(raftlog *log, const char *path) {
+    uint64_t number;
+    int queue = queue_of(log->spans, path, &number);
+    if (queue < 0 || !was_missing(log->spans, queue, number, UINT64_MAX)) return;
+    struct span *span = &log->spans->queues[queue];
+    bool is_new = !span->has_lost;
+    span->has_lost = true;
+    if (is_new) write_note(log);
+}
+
+/* A later number that doesn't follow changes nothing, so that such files are still reported. An earlier one comes if all
+ * files are gone and the log begins again. */
 void parts_add_span(raftlog *log, const char *path) {
     uint64_t number;
     int queue = queue_of(log->spans, path, &number);
     if (queue < 0) return;
     struct span *span = &log->spans->queues[queue];
-    if (!span->last) span->first = number;
-    else if (number != after(span->last)) return;
-    span->last = number;
+    bool is_earlier = span->last && number < span->first;
+    if (!is_earlier && span->last && number != after(span->last)) return;
+    if (is_earlier || !span->last) span->first = number;
+    if (!is_earlier) span->last = number;
     if (log->spans->is_silent) write_or_remove(log);
     else write_note(log);
 }
@@ -376,9 +403,10 @@ int parts_leave_span(raftlog *log, const char *path) {
     int queue = queue_of(log->spans, path, &number);
     struct span *span = &log->spans->queues[queue < 0 ? 0 : queue];
     if (queue < 0 || number < span->first || number > span->last) return 0;
-    if (span->first == span->last) *span = empty;
+    if (span->first == span->last) *span = (struct span){empty.first, empty.last, false, span->has_lost};
     else if (number == span->last) span->last = number - 1;
     else span->first = number + 1;
+    if (span->first > 1 && was_missing(log->spans, queue, 0, span->first - 1)) span->has_lost = true;
     return write_or_remove(log);
 }
 
@@ -390,6 +418,10 @@ bool parts_tell_lost(const raftlog *log, char *text, size_t room) {
     if (!lost) return false;
     const char *end = lost->is_rewrite ? "rewrite" : "raftlog";
     const char *what = lost->kind == RAFTLOG_FILE_STRAY ? "does not follow on the files before it" : "is missing";
+    if (lost->kind == RAFTLOG_LOST_BEFORE) {
+        snprintf(text, room, "%s: files were missing at an earlier opening, by the note in SPANS: accept the loss", log->folder);
+        return true;
+    }
     snprintf(text, room, "%s/%016llu.%s %s, by the note in SPANS: put the files back, or accept the loss", log->folder,
              (unsigned long long)lost->first, end, what);
     return true;

@@ -78,7 +78,7 @@ class Calls:
         ]:
             env = self.calling(FAIL=f"{kind}:{number}:{code}")
             before = logs_in(folder)
-            ran = self.run(folder, "put", 1, "a", "b", env=env)
+            ran = self.run(folder, "put", 1, "a", "b", "--cut", env=env)
             told = all(text in ran.stderr for text in texts)
             self.expect(f"{kind} {number}: {ran.stderr}", ran.returncode == 1 and told)
             for name in logs_in(folder) - before:

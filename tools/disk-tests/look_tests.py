@@ -17,7 +17,9 @@ import tempfile
 from call_cases import Calls
 from folders import add, bytes_of, flip, logs_in, numbers_in, reserved_in, state_of
 from loss_cases import Losses
+from mend_cases import Mends
 from plan_cases import Plans
+from source_cases import Sources
 from stream_cases import Streams
 
 KEYS = 2000
@@ -38,7 +40,7 @@ WHOLE = [0, 3, 0, 0, 0, 0, 3, 0, 0, 0, 0, 0, 0, 0, 0, 0, 0, 0, 0, 0]
 BROKEN = [1, 1, 1, 1, 1, 1, 1, 1, 1, 1, 4, 4, 5, 5, 4, 1, 0, 1, 5, 1]
 
 
-class Tests(Losses, Plans, Calls, Streams):
+class Tests(Losses, Plans, Mends, Sources, Calls, Streams):
     def __init__(self, program, work):
         self.program = os.path.abspath(program)
         self.work = work
@@ -413,6 +415,16 @@ def main():
         tests.table()
         tests.plans()
         tests.mends_keep()
+        tests.shells()
+        tests.links_to_folders()
+        tests.linked_files()
+        tests.permissions()
+        tests.partial_sources()
+        tests.left_out_sources()
+        tests.left_over_sources()
+        tests.replaced_entries()
+        tests.commanded_entries()
+        tests.failed_imports()
         tests.noted()
         tests.gap_without_note()
         tests.killed_first()

@@ -123,8 +123,9 @@ class Plans:
                     self.is_mended(folder, more, "doubled", True)
                 ran = self.run(folder, "check", *more)
                 self.expect(f"{folder}: check {command}: {ran.stdout}", ran.returncode == 0)
-                ran = self.run(folder, "get", 1, 5, *more)
-                self.expect(f"{folder}: its keys are there: {ran.stderr}", ran.returncode == 0)
+                ran = self.run(folder, "verify", 60, 40, *more)
+                whole = ran.returncode == 0 and b"present 60 " in ran.stdout
+                self.expect(f"{folder}: its keys are there, with their values: {ran}", whole)
             else:
                 ran = self.typed(command)
                 self.expect(f"{folder}: {command}: {ran.returncode} {ran.stderr}", ran.returncode in (0, 4))
@@ -133,34 +134,14 @@ class Plans:
             ran = self.run(mended, "check", *words)
             self.expect(f"{mended}: mended: {ran.stdout}", ran.returncode == 0)
 
-    def typed(self, command):
+    def plan_of(self, folder, *words):
+        """The lines of a plan, each in its parts."""
+        return [LINE.fullmatch(line) for line in lines_of(self.run(folder, "check", *words).stdout)]
+
+    def typed(self, command, shell="bash", **more):
         """A command as a user types it."""
         path = os.path.join(self.work, "bin") + os.pathsep + os.environ["PATH"]
-        return subprocess.run(["bash", "-c", command], capture_output=True, env={**os.environ, "PATH": path}, timeout=60)
-
-    def mends_keep(self):
-        """No command after `mend` replaces what an earlier one kept, or forgets what another one brings back."""
-        folder = self.with_stray(os.path.join(self.work, "kept-stray"))
-        stray = os.path.join(folder, name_of(9))
-        with open(stray + ".stray", "wb") as file:
-            file.write(b"kept before")
-        for line in lines_of(self.run(folder, "check").stdout):
-            self.typed(LINE.fullmatch(line)[9])
-        kept = (bytes_of(stray), bytes_of(stray + ".stray"))
-        self.expect(f"a second mv replaces nothing: {kept}", kept == (b"hello", b"kept before"))
-        folder = self.with_second_name(os.path.join(self.work, "kept-copy"))
-        path = os.path.join(folder, name_of(1))
-        with open(path + ".copy", "wb") as file:
-            file.write(b"kept before")
-        whole = bytes_of(path)
-        for line in lines_of(self.run(folder, "check").stdout):
-            self.typed(LINE.fullmatch(line)[9])
-        self.expect("a second copy replaces nothing", (bytes_of(path), bytes_of(path + ".copy")) == (whole, b"kept before"))
-        for make, mend in ((self.with_folder, "--spill second"), (self.without_append, "none")):
-            folder = make(os.path.join(self.work, f"forgets-{make.__name__}"))
-            found = [LINE.fullmatch(line) for line in lines_of(self.run(folder, "check").stdout)]
-            mends = {each[9] for each in found if each[1] == "missing"}
-            self.expect(f"{folder}: what is missing is not forgotten: {mends}", mends == {mend})
+        return subprocess.run([shell, "-c", command], capture_output=True, env={**os.environ, "PATH": path}, timeout=60, **more)
 
     def with_tail(self, folder):
         self.run(folder, "load", 60, 40)
@@ -273,7 +254,19 @@ class Plans:
             self.expect(f"noted, {case} gone: {ran.stdout}", found == kinds and ran.returncode == (6 if kinds else 0))
             ran = self.run(folder, "put", 1, "a", "b")
             told = {line.split()[1] for line in lines_of(ran.stderr)}
-            self.expect(f"noted, {case} gone: a put: {ran.stderr}", ran.returncode == 0 and told == kinds)
+            self.expect(f"noted, {case} gone: a put: {ran.stderr}", ran.returncode == (7 if kinds else 0) and told == kinds)
+            ran = self.run(folder, "repair")
+            self.expect(f"noted, {case} gone: a repair: {ran.stderr}", ran.returncode == (7 if kinds else 0))
+            ran = self.run(folder, "put", 1, "a", "b", "--cut")
+            told = {line.split()[1] for line in lines_of(ran.stderr)}
+            self.expect(f"noted, {case} gone: a put with --cut: {ran.stderr}", ran.returncode == 0 and told == kinds)
+            self.run(folder, "load", 300, 40, "--target", "1KB", "--cut")
+            ran = self.run(folder, "check")
+            found = {line.split()[1] for line in lines_of(ran.stdout)}
+            self.expect(f"noted, {case} gone: new files hide nothing: {ran.stdout}", found == kinds)
+            self.hides_nothing(f"noted, {case} gone", folder, kinds)
+            ran = self.run(folder, "repair", "--cut")
+            self.expect(f"noted, {case} gone: accepted: {ran.stderr}", ran.returncode == 0 and self.run(folder, "check").returncode == 0)
         folder, _ = self.numbered("noted-stray")
         last = max(int(name[:16]) for name in logs_in(folder) if name.endswith(".raftlog"))
         stray = os.path.join(folder, name_of(last + 5))
@@ -281,6 +274,18 @@ class Plans:
         ran = self.run(folder, "repair", "--cut")
         self.expect(f"a stray with a header: {ran.stderr}", ran.returncode == 0 and os.path.exists(stray + ".stray"))
         self.expect("then all is there", self.run(folder, "check").returncode == 0)
+
+    def hides_nothing(self, case, folder, kinds):
+        """Nor do files of another program, after which the note is old."""
+        last = max(int(name[:16]) for name in logs_in(folder) if name.endswith(".raftlog"))
+        others = [os.path.join(folder, name_of(last + more)) for more in (1, 2)]
+        for path in others:
+            shutil.copy(os.path.join(folder, name_of(1, "rewrite")), path)
+        ran = self.run(folder, "check")
+        found = {line.split()[1] for line in lines_of(ran.stdout)}
+        self.expect(f"{case}: another program's files: {ran.stdout}", found == kinds and ran.returncode == (6 if kinds else 0))
+        for path in others:
+            os.unlink(path)
 
     def gap_without_note(self):
         """A refused change notes no gap as harmless."""

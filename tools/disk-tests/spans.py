@@ -9,11 +9,11 @@ ENDS = ('raftlog', 'rewrite')
 
 
 class Span:
-    def __init__(self, first=1, last=0, is_dropping=False):
-        self.first, self.last, self.is_dropping = first, last, is_dropping
+    def __init__(self, first=1, last=0, is_dropping=False, has_lost=False):
+        self.first, self.last, self.is_dropping, self.has_lost = first, last, is_dropping, has_lost
 
     def copy(self):
-        return Span(self.first, self.last, self.is_dropping)
+        return Span(self.first, self.last, self.is_dropping, self.has_lost)
 
     def end(self, files):
         end = self.last
@@ -40,7 +40,19 @@ class Span:
         if self.is_stale(files):
             run = kept(files)
             return Span(run[0], run[-1]) if run[0] == min(files) else None
-        return Span(self.front(files), self.end(files))
+        return Span(self.front(files), self.end(files), has_lost=self.has_lost)
+
+    def add(self, number):
+        """A file was made: whether that changes the span."""
+        if self.last == 0:
+            self.first = self.last = number
+        elif number < self.first:
+            self.first = number
+        elif number == self.last + 1:
+            self.last = number
+        else:
+            return False
+        return True
 
     def leave(self, number):
         """A file gets another name or is deleted: whether that changes the span."""
@@ -62,7 +74,7 @@ class Span:
         return is_changed and not is_next
 
     def report(self, files):
-        """Missing, stray and left-over numbers, and whether the note is stale."""
+        """Missing, stray and left-over numbers, and whether the note is stale. `has_lost` says whether files were missing before."""
         if self.is_stale(files):
             return [], [], [], True
         end = self.end(files)
@@ -90,7 +102,8 @@ def notes_in(folder):
         if len(slot) < SLOT or not slot.startswith(MAGIC) or zlib.crc32(slot[:-4]) != int.from_bytes(slot[-4:], 'little'):
             continue
         count, *spans, flags, size = (int.from_bytes(slot[at:at + 8], 'big') for at in range(16, 72, 8))
-        append, rewrite = Span(*spans[:2], bool(flags & 1)), Span(*spans[2:], bool(flags & 2))
+        append = Span(*spans[:2], bool(flags & 1), bool(flags & 4))
+        rewrite = Span(*spans[2:], bool(flags & 2), bool(flags & 8))
         if latest is None or count > latest[0]:
             latest = count, (append, rewrite), slot[72:72 + size].decode()
     return latest and latest[1:]
@@ -114,7 +127,9 @@ def losses_in(folder):
     spans, spill = noted
     told = []
     for span, end in zip(spans, ENDS):
-        missing, strays, _, _ = span.report(numbers_in(folder, spill, end))
+        missing, strays, _, is_stale = span.report(numbers_in(folder, spill, end))
         if missing or strays:
             told.append(f'{end}: missing {missing}, strays {strays}')
+        if span.has_lost and not is_stale:
+            told.append(f'{end}: missing before')
     return '; '.join(told) or None

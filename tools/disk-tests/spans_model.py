@@ -7,10 +7,11 @@ before and after each change of a name and each write of the note. Names change 
 was not synced may be there or not: any of those since the last sync. Three programs write notes: raft_disk, which sees one
 call at a time; the library for C, which sees the deletions of a purge together; and another one that writes none.
 
-The model fails if a note ever reports as missing or stray what only crashes did, except beside the program that writes no
-notes: what is reported falsely there is counted. It counts what is reported of files that are taken away, or put there,
-between two calls. The controls must report something false: a note that is written too late, or that is not synced.
-Status: 0 if all this is so."""
+The model fails if a note ever reports as missing, stray or lost before what only crashes did, except beside the program that
+writes no notes: what is reported falsely there is counted. It counts what is reported of files that are taken away, or put
+there, between two calls. The controls must report something false: a note that is written too late, or that is not synced.
+In the runs `lossy` files are taken away for good: from the first opening that reports one on, each opening must report a loss.
+Without the mark of losses some openings must forget one. Status: 0 if all this is so."""
 import argparse
 import itertools
 import random
@@ -19,6 +20,7 @@ import sys
 from spans import Span, kept
 
 RUNS = ('disk', 'c', 'mixed', 'foreign')
+LOSSY, NO_MARK = 'lossy', 'lossy without a mark'
 CONTROLS = ('first-late', 'first-unsynced', 'slots-in-turn', 'last-early', 'no-dropping-mark')
 
 
@@ -37,6 +39,7 @@ class Log:
         self.files, self.needed, self.last = set(), 1, 0
         self.slots, self.synced, self.count = [[TORN], [TORN]], 1, 0
         self.span, self.is_behind = None, False
+        self.missing, self.was_reported, self.forgotten, self.openings = [], False, 0, 0
         self.crash_in = None
         self.syncs = self.rotations = self.purges = self.deleted = 0
 
@@ -77,10 +80,21 @@ class Log:
 
     # ---- what the writer does
 
+    def lose(self, is_lost):
+        """Marks that a missing file can't be put back: whether that is new."""
+        is_new = is_lost and not self.span.has_lost and self.control != NO_MARK
+        self.span.has_lost |= is_new
+        return is_new
+
+    def lose_passed(self):
+        return self.lose(any(number < self.span.first for number in self.missing))
+
     def make(self, number, old=None):
         """Makes a file, or renames one to it."""
         if old is not None:
             self.leave(old)
+        if self.span and self.lose(any(number <= other for other in self.missing)):
+            self.write(True)
         if self.control == 'last-early' and self.span:
             self.span.last = max(self.span.last, number)
             self.write(True)
@@ -91,11 +105,7 @@ class Log:
         self.moment()
         if self.span is None:
             return
-        if self.span.last == 0:
-            self.span.first = self.span.last = number
-        elif number == self.span.last + 1:
-            self.span.last = number
-        else:
+        if not self.span.add(number):
             return
         self.span.is_dropping = False
         self.write(True)
@@ -104,6 +114,7 @@ class Log:
         if self.span is None:
             self.forget()
         elif self.span.leave(up_to or number) and self.control != 'first-late':
+            self.lose_passed()
             self.write(True)
 
     def forget(self):
@@ -117,6 +128,7 @@ class Log:
         elif self.span.first <= number <= self.span.last:
             self.is_behind = True
             is_due = self.span.delete(number)
+            is_due |= self.lose_passed()
             if self.control == 'no-dropping-mark':
                 self.span.is_dropping = False
                 is_due = number % 2
@@ -173,11 +185,26 @@ class Log:
         if writer == 'foreign':
             self.span = None
         else:
+            self.see_losses(note or Span())
             self.span = (note or Span()).at_opening(self.files)
             if self.span is not None and self.span != (note or Span()):
                 self.write(True)
         if not run:
             self.make(1)
+
+    def see_losses(self, note):
+        """What an opening reports."""
+        self.missing, strays, _, is_stale = note.report(self.files)
+        has_losses = bool(self.missing or strays or (note.has_lost and not is_stale))
+        self.openings += self.was_reported
+        self.forgotten += self.was_reported and not has_losses
+        self.was_reported |= has_losses
+
+    def take_away(self):
+        """Someone deletes files that are needed: one of them, the last one, or all."""
+        needed = sorted(number for number in self.files if number >= self.needed)
+        if needed:
+            self.files -= set(self.chance.choice((needed[-1:], [self.chance.choice(needed)], needed)))
 
     def crash(self):
         self.slots = [[self.chance.choice(slot)] for slot in self.slots]
@@ -201,7 +228,7 @@ class Counts:
             return
         missing, strays, _, is_stale = note.report(log.files)
         self.stale += is_stale
-        self.false += bool(missing or strays)
+        self.false += bool(missing or strays or (note.has_lost and not is_stale))
 
     def spoil(self, log):
         """Someone takes files away, or puts one there, between two calls."""
@@ -222,7 +249,7 @@ class Counts:
 
 def play(seed, run, control, counts):
     chance = random.Random(seed)
-    writer_of = {'disk': lambda: 'disk', 'c': lambda: 'c', 'mixed': lambda: chance.choice(('disk', 'c')),
+    writer_of = {LOSSY: lambda: chance.choice(('disk', 'c')), 'disk': lambda: 'disk', 'c': lambda: 'c', 'mixed': lambda: chance.choice(('disk', 'c')),
                  'foreign': lambda: chance.choice(('disk', 'c', 'foreign'))}[run]
     log = Log(chance, 'disk', control, counts.look)
     log.open(writer_of())
@@ -238,6 +265,8 @@ def play(seed, run, control, counts):
                 log.close()
                 log.crash_in = None
                 log.crash()
+                if run == LOSSY and chance.random() < .2:
+                    log.take_away()
                 log.open(writer_of())
             counts.spoil(log)
         except Crash:
@@ -262,6 +291,11 @@ def main():
         print(f'    not reported: {counts.hidden} of {counts.gone} needed files, {counts.ends_hidden} of {counts.ends} last ones, '
               f'{counts.alls_hidden} of {counts.alls} times all, {counts.strays_hidden} of {counts.strays} strays; {total}')
         is_good = is_good and bool(known or bool(control) == (counts.false > 0))
+    for control in ('', NO_MARK):
+        logs = [play(seed, LOSSY, control, Counts()) for seed in range(words.seeds)]
+        openings, forgotten = (sum(getattr(log, it) for log in logs) for it in ('openings', 'forgotten'))
+        print(f'{control or LOSSY}: {openings} openings after a loss was reported, {forgotten} of them report nothing')
+        is_good = is_good and openings and bool(control) == (forgotten > 0)
     print('as it should be' if is_good else 'NOT AS IT SHOULD BE')
     return 0 if is_good else 1
 

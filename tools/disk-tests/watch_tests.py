@@ -273,14 +273,23 @@ class Tests:
         self.expect("no command", self.run("groups", cwd=self.work).returncode == 2)
 
     def limits(self):
-        """A limit of file sizes is told with what helps; what helps makes it an error."""
+        """A change does nothing where a limit of file sizes would end it by a signal; what helps makes that an error."""
         folder = self.place("limit")
-        line = f'ulimit -f 20; exec "{self.program}" "{folder}" put 1 a b'
-        ran = subprocess.run(["bash", "-c", line], capture_output=True, check=False)
-        self.expect(f"a limit: {ran}", b"SIGXFSZ" in ran.stderr and b"trap" in ran.stderr)
+
+        def limited(kilobytes, words, before=""):
+            line = f'{before} ulimit -f {kilobytes}; exec "{self.program}" "{folder}" {words}'
+            return subprocess.run(["bash", "-c", line], capture_output=True, check=False)
+
+        for words in ("put 1 a b", "load 1000 1000", "repair"):
+            ran = limited(20, words)
+            told = b"20480 bytes" in ran.stderr and b"trap '' XFSZ" in ran.stderr and b"--target" in ran.stderr
+            self.expect(f"a limit: {words}: {ran}", ran.returncode == 1 and told and not os.path.exists(folder))
+        ran = limited(8192, "put 1 a b --target 1MB")
+        self.expect(f"a smaller target: {ran}", ran.returncode == 0 and not ran.stderr)
+        ran = limited(20, "get 1 a")
+        self.expect(f"a look: {ran}", ran.stdout == b"b\n" and b"SIGXFSZ" in ran.stderr)
         self.file("limit-value", "v" * 30000)
-        line = "trap '' XFSZ; " + line[:-1] + f'"@{self.place("limit-value")}"'
-        ran = subprocess.run(["bash", "-c", line], capture_output=True, check=False)
+        ran = limited(20, f'put 1 a "@{self.place("limit-value")}"', "trap '' XFSZ;")
         self.expect(f"a limit as an error: {ran}", ran.returncode == 1 and b"File too large" in ran.stderr)
         self.expect("no limit, no word", b"ulimit" not in self.run(folder, "put", 1, "a", "b").stderr)
 

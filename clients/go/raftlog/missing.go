@@ -13,6 +13,7 @@ const (
 	FileMissing LossKind = C.RAFTLOG_FILE_MISSING // they are needed and do not exist: what they contained is lost
 	FileStray   LossKind = C.RAFTLOG_FILE_STRAY   // one exists, and does not follow on the log's files
 	NoteStale   LossKind = C.RAFTLOG_NOTE_STALE   // another program wrote to the log since: not known
+	LostBefore  LossKind = C.RAFTLOG_LOST_BEFORE  // one was missing at an earlier opening, and cannot be put back
 )
 
 // A Loss is what an opening found by the log's note of its files' numbers.
@@ -22,7 +23,8 @@ type Loss struct {
 	First, Last uint64 // the least and the greatest number
 }
 
-// OpenWhole opens a log as Open does, but fails as Lost if a file is missing or a stray. It has changed no log file then.
+// OpenWhole opens a log as Open does, but fails as Lost if a file is missing or was, or is a stray. It has changed no
+// log file then.
 func OpenWhole(folder, settings string) (*Engine, error) {
 	path := C.CString(folder)
 	defer C.free(unsafe.Pointer(path))
@@ -43,8 +45,7 @@ func AcceptMissing(folder string) error {
 }
 
 // Missing returns the log files that the opening found to be missing or strays. After a crash or a kill there are none.
-// Later openings report them too, until a next file gets the number, a purge drops files after it, or AcceptMissing is
-// called.
+// Later openings report them too, until the files are put back or AcceptMissing is called.
 func (e *Engine) Missing() ([]Loss, error) {
 	e.mutex.RLock()
 	defer e.mutex.RUnlock()

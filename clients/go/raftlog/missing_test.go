@@ -45,8 +45,16 @@ func TestMissing(t *testing.T) {
 			t.Fatal(losses)
 		}
 	}
+	log, err := Open(folder, smallFiles)
+	must(t, err)
+	_, err = log.MustRewriteAppendQueue()
+	must(t, err)
+	must(t, log.Close())
+	if losses := missingOf(t, folder); len(losses) != 1 || losses[0].Kind != LostBefore {
+		t.Fatal(losses)
+	}
 	must(t, AcceptMissing(folder))
-	log, err := OpenWhole(folder, smallFiles)
+	log, err = OpenWhole(folder, smallFiles)
 	must(t, err)
 	must(t, log.Close())
 	if _, err := log.Missing(); !HasCode(err, Failed) {

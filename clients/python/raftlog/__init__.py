@@ -36,7 +36,7 @@ def _load():
 _C = _load()
 INVALID, IO, TRY_AGAIN, GAP, COMPACTED, NO_ENTRY, FAILED, ABSENT, IN_USE, FOLDER = 1, 3, 4, 5, 7, 8, 11, 20, 30, 32
 CORRUPTION, NO_MEMORY, STALE_NUMBER, NOT_PLAIN, LOST = 2, 12, 18, 31, 33
-FILE_MISSING, FILE_STRAY, NOTE_STALE = 1, 2, 3
+FILE_MISSING, FILE_STRAY, NOTE_STALE, LOST_BEFORE = 1, 2, 3, 4
 _Watch = ctypes.CFUNCTYPE(None, c_void_p, c_uint64, c_uint64)
 
 
@@ -296,9 +296,9 @@ class Engine:
 
     def missing(self):
         """The log files that the opening found to be missing or strays, by the log's note of their numbers. A Loss has its
-        kind (FILE_MISSING, FILE_STRAY, or NOTE_STALE: not known), the queue, and the least and the greatest number. After a
-        crash or a kill there are none. Later openings report them too, until a next file gets the number, a purge drops
-        files after it, or `accept_missing` is called."""
+        kind (FILE_MISSING, FILE_STRAY, LOST_BEFORE: one was missing at an earlier opening and cannot be put back, or
+        NOTE_STALE: not known), the queue, and the least and the greatest number. After a crash or a kill there are none.
+        Later openings report them too, until the files are put back or `accept_missing` is called."""
         if not self._log:
             raise Error(FAILED, "the log is closed")
         count = _C.raftlog_missing(self._log, None, 0, 0)

@@ -20,6 +20,7 @@ LOST: int
 FILE_MISSING: int
 FILE_STRAY: int
 NOTE_STALE: int
+LOST_BEFORE: int
 
 class Error(Exception):
     code: int

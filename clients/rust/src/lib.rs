@@ -313,6 +313,8 @@ pub enum LossKind {
     FileStray,
     /// Another program wrote to the log after its note: whether a file is missing isn't known.
     NoteStale,
+    /// One was missing at an earlier opening, and cannot be put back.
+    LostBefore,
     Other(i32),
 }
 
@@ -322,6 +324,7 @@ impl LossKind {
             1 => LossKind::FileMissing,
             2 => LossKind::FileStray,
             3 => LossKind::NoteStale,
+            4 => LossKind::LostBefore,
             kind => LossKind::Other(kind),
         }
     }
@@ -554,7 +557,7 @@ impl Engine {
     }
 
     /// The log files that the opening found to be missing or strays. After a crash or a kill there are none. Later openings
-    /// report them too, until a next file gets the number, a purge drops files after it, or `accept_missing` is called.
+    /// report them too, until the files are put back or `accept_missing` is called.
     pub fn missing(&self) -> Vec<Loss> {
         let count = unsafe { sys::raftlog_missing(self.log, ptr::null_mut(), 0, 0) };
         let mut found = Vec::with_capacity(count);

@@ -205,6 +205,9 @@ fn files_that_are_missing() {
         let told: Vec<_> = losses.iter().map(|it| (it.kind, it.is_rewrite, it.first, it.last)).collect();
         assert_eq!(told, [(LossKind::FileMissing, false, 3, 3)]);
     }
+    Engine::open(&folder, settings).unwrap().must_rewrite_append_queue().unwrap();
+    let kinds = |losses: Vec<raftlog::Loss>| losses.iter().map(|it| it.kind).collect::<Vec<_>>();
+    assert_eq!(kinds(Engine::open(&folder, settings).unwrap().missing()), [LossKind::LostBefore]);
     raftlog::accept_missing(&folder).unwrap();
     assert_eq!(Engine::open_whole(&folder, settings).unwrap().missing(), []);
     assert_eq!(raftlog::accept_missing("").unwrap_err().code, Code::Invalid);

@@ -11,14 +11,13 @@ use Rattle.raft_script.specs.Headline.{progress_from}
 use Rattle.raft_script.specs.declared.operation.Op.{Op}
 use Rattle.raft_script.specs.declared.operation.Outcome.{Outcome}
 
--- there is an outcome of each operation, and the place, if any, is that of one of them
+-- each operation has an outcome, and the place of the failure, if any, is that of one of them
 pub record AreFitting (failed_at : Option ℕ) (ops : List Op) (outcomes : List Outcome)
     : Type 0 where
   pub as_many : length outcomes ≡ length ops
   pub place : MatchOption failed_at (Unit {0}) (λ place. place < length ops)
 
--- a crash may leave these contents: those after a prefix of what was accepted and of what may be in
--- flight, with every covered batch
+-- a crash may leave these contents: after all covered batches and a prefix of the others
 abbrev pub MayBeLeft : Option ℕ → List Op → List Outcome → Contents → Type 0
 MayBeLeft failed_at ops outcomes m =
     let p = progress_after_all no_contents (progress_from []) ops outcomes in
@@ -26,7 +25,7 @@ MayBeLeft failed_at ops outcomes m =
     × MayBeInFlightAt failed_at (after_batches no_contents p.batches) ops flight
     × IsAllowedFrom p.covered no_contents (p.batches ++ flight) m
 
--- the image is one of such contents, as reads show them: without the numbers that groups keep
+-- the image shows such contents, as reads do: without the numbers that groups keep
 abbrev pub IsLeftAs : Option ℕ → List Op → List Outcome → Image → Type 0
 IsLeftAs failed_at ops outcomes image =
     (m : Contents) × MayBeLeft failed_at ops outcomes m

@@ -16,12 +16,12 @@ use Rattle.raft_allowed.specs.declared.walk.Reached.{Reached}
 abbrev pub AreHeldBy : List Image → List Contents → Type 0
 AreHeldBy images ms = AllZip (λ image m. IsHeldBy m image.groups.items) images ms
 
--- the contents after each prefix of the batches but the whole
+-- the contents after each prefix of the batches, except the whole
 abbrev pub contents_before : Contents → List Batch → List Contents
 contents_before m [] = []
 contents_before m (batch ∷ batches) = m ∷ contents_before (after_batch m batch) batches
 
--- the images are those of the prefixes with every covered batch
+-- the images show the contents after each prefix of the batches that has every covered one
 pub record IsReached (p : Progress) (reached : Reached) : Type 0 where
   pub durable : List Batch
   pub unsynced : List Batch
@@ -31,31 +31,31 @@ pub record IsReached (p : Progress) (reached : Reached) : Type 0 where
       (contents_before (after_batches no_contents durable) unsynced)
   pub last : IsHeldBy (after_batches no_contents p.batches) reached.last.groups.items
 
--- more batches are accepted
+-- the progress with more accepted batches
 abbrev pub with_batches : Progress → List Batch → Progress
 with_batches p batches = record { batches = p.batches ++ batches; covered = p.covered }
 
--- .. and covered, where the operation covers
+-- the progress with all batches covered, if the operation covers them
 abbrev pub covered_if : Progress → Op → Outcome → Progress
 covered_if p op outcome = record {
   batches = p.batches;
   covered = if is_covering op outcome then length p.batches else p.covered;
 }
 
--- the contents after the batch, where they take it and it has items
+-- the contents after the batch, if they accept it and it has items
 abbrev pub taken_of : Batch → List Contents → List Contents
 taken_of batch ms = flat_map (λ m. map (after_batch m) (pending_of m batch)) ms
 
--- .. and after each choice of batches, in order
+-- the contents after each choice of these batches, in order
 abbrev pub contents_from : List Contents → List Batch → List Contents
 contents_from ms [] = ms
 contents_from ms (batch ∷ batches) = contents_from (ms ++ taken_of batch ms) batches
 
--- the batches that an operation is to write, where there is one
+-- the batches that an operation is to write, if there is one
 abbrev pub batches_if : Contents → Option Op → List Batch
 batches_if m None = []
 batches_if m (Some op) = batches_of_op m op
 
--- .. the one at a place
+-- the batches that the operation at a place is to write, if there is one
 abbrev pub batches_at : Contents → List Op → Option ℕ → List Batch
 batches_at m ops place = batches_if m (option_and_then (slice_get ops) place)

@@ -12,7 +12,7 @@ pub(crate) fn is_accepted(outcome: &Outcome, place: usize) -> bool
     ensures { result ≡ is_ok_at place (answers_in outcome.now) }
 {
     match outcome {
-        // A write with numbers that had acted is answered so too, and has no batch.
+        // A write with numbers that had acted returns the same, and has no batch.
         Outcome::Size(answer) => is_first(place, answer.is_ok()),
         Outcome::Count(answer) => is_first(place, answer.is_ok()),
         Outcome::Sizes(Ok(answers)) => is_one_of(answers, place),

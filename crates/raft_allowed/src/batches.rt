@@ -87,7 +87,7 @@ fn batch_alone<'a>(
     Ok(batches)
 }
 
-// A batch of each part, and none at all where one of them has none.
+// A batch of each part, or no batches if one of them has none.
 fn batches_of_parts<'a>(
     alloc: Global,
     parts: &'a [(Vec<Act>, bool)],
@@ -107,7 +107,7 @@ fn batches_of_parts<'a>(
     Ok(batches)
 }
 
-// The changes of a write with numbers, where it acts.
+// The changes of a write with numbers, if it acts.
 fn acting_changes<'a>(
     alloc: Global,
     groups: &[GroupImage],
@@ -176,7 +176,7 @@ fn is_below(kept: u64, number: u64) -> bool
     kept < number
 }
 
-// The number that a group keeps, 0 where it keeps none.
+// The number that a group keeps, 0 if it keeps none.
 fn kept_at(groups: &[GroupImage], group: u64) -> u64
     ensures { result ≡ kept_of (held_at group (held_of groups.now)) }
 {
@@ -188,7 +188,7 @@ fn kept_at(groups: &[GroupImage], group: u64) -> u64
     0
 }
 
-// The command that drops entries of a group, where it has some.
+// The command that drops entries of a group, if it has some.
 fn compaction<'a>(
     alloc: Global,
     groups: &[GroupImage],

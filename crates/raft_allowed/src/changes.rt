@@ -78,7 +78,7 @@ fn is_internal_key(key: &[u8]) -> bool
     matches!(key, [b'_', b'_', ..])
 }
 
-// The change of an act goes behind the others, if it has one; whether it can be done.
+// Adds the change of an act after the others, if it has one. Returns whether it can be done.
 fn push_change<'a>(changes: &mut Vec<Change<'a>>, act: &'a Act) -> Result<bool, AllocError>
     ensures { IfOk result (λ done. MatchBool done
         ((items : Batch) × (items_of_act act.now ≡ Some items)

@@ -80,7 +80,7 @@ fn with_group(alloc: Global, groups: &[GroupImage], image: GroupImage) -> Result
     Ok(Image { groups: new })
 }
 
-// The group goes behind the others, where it has something.
+// Adds the group after the others, if it has something.
 fn push_any(groups: &mut Vec<GroupImage>, image: GroupImage) -> Result<(), AllocError>
     ensures { OnOk result (held_of groups.new.items ≡ held_of groups.old.items
         ++ with_one image.group (if_any (held_in image))) }

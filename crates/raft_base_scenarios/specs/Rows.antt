@@ -5,6 +5,7 @@ use Rattle.raft_records.specs.Contents.{no_contents, after_batches}
 use Rattle.raft_records.specs.Record.{Begin, End, mark_item}
 use Rattle.raft_recovery_laws.specs.Recovered.{recovered}
 
+-- an item of group 1
 abbrev pub item : Content → Item
 item content = record { group = 1; content = content }
 
@@ -12,6 +13,7 @@ item content = record { group = 1; content = content }
 abbrev pub entries_with : ℕ → List ℕ → Content
 entries_with byte indexes = Entries (map (λ i. (i, byte ∷ [])) indexes)
 
+-- a batch of entries with these indexes
 abbrev pub entries : List ℕ → Batch
 entries indexes = item (entries_with 0 indexes) ∷ []
 
@@ -19,22 +21,27 @@ entries indexes = item (entries_with 0 indexes) ∷ []
 abbrev pub key : List ℕ
 key = 97 ∷ []
 
+-- a batch that puts this byte at the key
 abbrev pub put : ℕ → Batch
 put value = item (Put key (value ∷ [])) ∷ []
 
+-- a batch that deletes the key
 abbrev pub delete : Batch
 delete = item (Delete key) ∷ []
 
+-- a batch that cleans the group
 abbrev pub clean : Batch
 clean = item Clean ∷ []
 
+-- a batch that compacts the group to this index
 abbrev pub compact : ℕ → Batch
 compact index = item (Compact index) ∷ []
 
--- a batch as the first, or the last, of the atomic group with this id
+-- a batch as the first one of the atomic group with this id
 abbrev pub begin_group : ℕ → Batch → Batch
 begin_group id batch = mark_item id Begin ∷ batch
 
+-- a batch as the last one of the atomic group with this id
 abbrev pub end_group : ℕ → Batch → Batch
 end_group id batch = mark_item id End ∷ batch
 
@@ -43,6 +50,7 @@ pub record Found : Type 0 where
   pub indexes : List ℕ
   pub value : Option (List ℕ)
 
+-- what is recovered of the group from batches of the Rewrite queue and the Append queue
 abbrev pub found : List Batch → List Batch → Found
 found rewritten appended = record {
   indexes = map (λ e. e.0) ((recovered rewritten appended).entries 1);
@@ -57,6 +65,7 @@ only indexes = record { indexes = indexes; value = None }
 abbrev pub value : ℕ → Found
 value byte = record { indexes = []; value = Some (byte ∷ []) }
 
+-- no entries and no value
 abbrev pub nothing : Found
 nothing = only []
 

@@ -11,7 +11,7 @@ use Rattle.raft_c.specs.declared.loading.Loading.{Loading}
 abbrev pub listed : List PathAndBytes → List (List ℕ × List ℕ)
 listed files = map (λ f. (string_bytes f.0, f.1.items)) files
 
--- .. behind what was found before
+-- what was found at the path is added after what was found before
 abbrev pub IsFoundMore : List ℕ → Found → Loading → Loading → Type 0
 IsFoundMore path (File bytes) old new =
     (listed new.files.items ≡ listed old.files.items ++ (path, bytes.now) ∷ [])
@@ -24,8 +24,7 @@ abbrev pub IsFoundAsBefore : Loading → Loading → Type 0
 IsFoundAsBefore old new =
     (new.files.items ≡ old.files.items) × (new.folders.items ≡ old.folders.items)
 
--- with this code what was found at a path was added, or what was found before stays: the path is no
--- text, or there was no memory
+-- with this code it was added; or nothing changed, since the path is no text or memory ran out
 pub record IsFoundBy (path : List ℕ) (found : Found) (code : ℤ) (old new : Loading) : Type 0 where
   pub ok : code ≡ pos 0 → IsUtf8 path × IsFoundMore path found old new
   pub err : (code ≡ pos 0 → ⊥) → IsFoundAsBefore old new

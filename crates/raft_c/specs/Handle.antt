@@ -1,4 +1,4 @@
--- What a handle owns: nothing, or what a box of a log owns.
+-- What a handle owns: nothing, or a box of a log.
 use Rattle.std.specs.Prelude.{Option, Some, None}
 use Rattle.std.specs.Coded.{coded_option}
 use base.Fml.{Fml, ftrue}
@@ -14,9 +14,11 @@ use Rattle.raft_c.specs.contracts.log.Log as log
 abbrev pub frees : Ty → Ptr → Fml
 frees = ghosts.dealloc_token (record { memory = record { seal = tt } })
 
+-- the handle at this address owns nothing, or the box of this log
 abbrev pub handle_owns : Ptr → Option Log → Fml
 handle_owns p None = ftrue
 handle_owns p (Some c) = box_owns frees log.the_row p c
 
+-- an optional log as a ghost value
 abbrev pub log_coded : Coded (Option Log)
 log_coded = coded_option (log.the_row).coded

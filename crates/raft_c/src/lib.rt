@@ -270,7 +270,7 @@ pub extern "C" fn raft_c_settle(alloc: Global, handle: &mut Handle, carried_out:
     code
 }
 
-// Reads, and copies the bytes of the answer as far as there is room for them.
+// Reads, and copies the bytes of the result, as many as fit.
 fn read(alloc: Global, handle: &mut Handle, query: Query<'_>, out: &mut [u8], len: &mut u64) -> i32
     requires { IsSome handle.old.value }
     ensures some { IsSome handle.new.value }

@@ -1,4 +1,4 @@
--- Answers as bytes.
+-- Results as bytes.
 use Rattle.std.specs.Prelude.{ℕ, List, [], ◌∷◌, ◌++◌}
 use Rattle.raft_codec.specs.Number.{u64_bytes}
 use Rattle.raft_c_batch.specs.Batch.{part_bytes}

@@ -1,4 +1,4 @@
-//! Batches and answers as bytes, for callers in other languages.
+//! Batches and results as bytes, for callers in other languages.
 #![tactic(auto)]
 
 mod batch;

@@ -1,4 +1,4 @@
--- What calls on an open log do and answer, by what its engine holds.
+-- What calls on an open log do and return, by what its engine holds.
 use Rattle.std.specs.Borrow.{Bor}
 use Rattle.std.specs.Option.{option_copied}
 use Rattle.std.specs.Prelude.{◌≡◌, ◌⊎◌, ℕ, Bool, true, false, List, [], length, Option, Some, None, Result, Ok, Err, IsErrAnd, IsSomeAnd, Vec, drop, min, option_map, unwrap_or, zip}
@@ -31,24 +31,26 @@ use Rattle.raft_c_log.specs.declared.calls.Query.{Query}
 use Rattle.raft_c_log.specs.declared.calls.Query.TheVariants as query
 use Rattle.raft_c_log.specs.declared.calls.Scan.{Scan}
 
--- bytes that were found
+-- the bytes, if they were found
 abbrev pub answered : Bool → List ℕ → Option (List ℕ)
 answered true bytes = Some bytes
 answered false bytes = None
 
+-- a fetch of a group's entries between these bounds, of at most so many bytes
 abbrev pub fetch_of : ℕ → ℕ → ℕ → ℕ → Fetch
 fetch_of group begin end max = record { group = group; begin = begin; end = end; max_size = max }
 
--- a scan, whose end is a bound or is not
+-- the end of a scan, if it has one
 abbrev pub scan_end : Bool → Bor (List ℕ) → Option (Bor (List ℕ))
 scan_end true end = Some end
 scan_end false end = None
 
+-- a scan of a group's keys between these bounds, of at most `limit` pairs
 abbrev pub scan_of : ℕ → Bor (List ℕ) → Option (Bor (List ℕ)) → Bool → ℕ → Scan
 scan_of group start end backwards limit =
     record { group = group; start = start; end = end; reverse = backwards; limit = limit }
 
--- a group without entries and keys answers nothing, another one its entries between the bounds
+-- the result of a fetch: nothing if the group has no entries and keys, else entries between bounds
 pub record IsFetchAnswer (fetch : Fetch) (m : Contents) (answer : List ℕ) : Type 0 where
   pub without : IsWithout m fetch.group → answer ≡ []
   pub fetched :
@@ -56,13 +58,13 @@ pub record IsFetchAnswer (fetch : Fetch) (m : Contents) (answer : List ℕ) : Ty
       × (answer ≡ entries_bytes (entries_to_fetch length fetch.begin fetch.end
       (max_of fetch.max_size) (m.entries fetch.group)))
 
--- the first pairs of a group between the bounds, as many as the limit
+-- the result of a scan: the first pairs of the group between the bounds, as many as the limit
 pub record IsScanAnswer (scan : Scan) (m : Contents) (answer : List ℕ) : Type 0 where
   pub pairs : List (List ℕ × List ℕ)
   pub scanned : IsScan m scan.group (Some scan.start.now) (option_copied scan.end) scan.reverse pairs
   pub bytes : answer ≡ pairs_bytes (limited (max_of scan.limit) pairs)
 
--- the first and the last index, of a group with entries
+-- the first and the last index of a group, if it has entries
 abbrev pub IsSpanAnswer : List Entry → ℕ × ℕ → Bool → Type 0
 IsSpanAnswer entries numbers true =
     (first_index_of entries ≡ Some numbers.0) × (last_index_of entries ≡ Some numbers.1)
@@ -70,20 +72,20 @@ IsSpanAnswer entries numbers false = first_index_of entries ≡ None
 
 -- Changes.
 
--- a call's result came to this outcome: Told holds of what it answered, or the fault is the same
+-- a call's result gave this outcome: Told holds of its value, or the fault is the same
 abbrev pub ComesTo : {T : Type 0} → (T → Type 0) → Result T Fault → Result (Unit {0}) Fault → Type 0
 ComesTo Told (Ok x) (Ok done) = Told x
 ComesTo Told (Err e) (Err f) = f ≡ e
 ComesTo Told _ _ = ⊥
 
--- a call of the engine with this clause came to this outcome
+-- a call of the engine with this clause gave this outcome
 pub record IsCall {T : Type 0} (Clause : Result T Fault → Type 0) (Told : T → Type 0)
     (outcome : Result (Unit {0}) Fault) : Type 0 where
   pub result : Result T Fault
   pub clause : Clause result
   pub comes : ComesTo Told result outcome
 
--- .. with the batch that was taken, which has the rest after it
+-- IsCall, with the batch that was read, of which `rest` is left afterwards
 abbrev pub IsBatchCall : (Batch → Batch → Result ℕ Fault → Type 0) → Result (Unit {0}) Fault → Batch
     → Type 0
 IsBatchCall Clause outcome items =
@@ -95,9 +97,7 @@ module _ {F H R W : Type 0} {g : Ghosts F H R W} where
       → Engine F H R W g → Type 0
   IsKeptOff Unfit outcome old new = IsErrAnd outcome Unfit × (new ≡ old)
 
-  -- a change is a call of the engine that came to this outcome, by the clause of that call itself, and the
-  -- answer tells what the engine answered. Bytes of no batch don't reach the engine. Without memory for
-  -- them the groups that a purge answers aren't told
+  -- a change is a call of the engine, by that call's own clause; bytes of no batch don't reach it
   abbrev pub IsCalled : Change → Result (Unit {0}) Fault → Engine F H R W g → Engine F H R W g → Answer
       → Type 0
   IsCalled (Write bytes sync) outcome old new answer =
@@ -130,12 +130,12 @@ module _ {F H R W : Type 0} {g : Ghosts F H R W} where
 
   -- Queries.
 
-  -- the known groups
+  -- the result of a query of the known groups
   abbrev pub IsGroupsAnswer : Engine F H R W g → List ℕ → Type 0
   IsGroupsAnswer e answer = (groups : List ℕ)
       × IsGroupList (contents_of e) (is_known_in e) groups × (answer ≡ numbers_bytes groups)
 
-  -- what a query answers, and whether that is there
+  -- the result of a query, and whether it was found
   abbrev pub HasAnswered : Query → Engine F H R W g → Answer → Bool → Type 0
   HasAnswered (query.Get group key) e answer found =
       answered found answer.bytes.items ≡ (shown (contents_of e)).value group key.now

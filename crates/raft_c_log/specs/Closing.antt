@@ -18,7 +18,7 @@ use Rattle.raft_log_engine.specs.declared.engine.Engine.{Engine}
 use Rattle.raft_c_log.specs.Refusals.{IsRefusalFor}
 
 module _ {F H R W : Type 0} {g : Ghosts F H R W} where
-  -- a close fails by a fault of this code, and a crash leaves what it could leave before
+  -- a close fails with a fault of this code, and a crash leaves what it could leave before
   pub record IsCloseRefused (code : ℤ) (e : Engine F H R W g) (files : F) : Type 0 where
     pub fails : Fault
     pub code_is : code ≡ pos (fault_code fails)
@@ -27,17 +27,17 @@ module _ {F H R W : Type 0} {g : Ghosts F H R W} where
         (g.refusals_of files)) fails
     pub keeps : RecoversContents (folders_of e) (durable_of e) (unsynced_of e) (g.directory files)
 
-  -- an engine was closed with this code, which is 11 where it had failed, and leaves these files: they
-  -- hold what it held, and at each moment of it a crash left what it could leave before
+  -- an engine was closed with this code, and these files are left; code 11: it had failed
   pub record IsClosedAs (code : ℤ) (e : Engine F H R W g) (files : F) : Type 0 where
     pub ok :
         code ≡ pos 0 → IsClosedIn (folders_of e) (contents_of e) (is_known_in e)
         (g.directory files)
     pub err : (code ≡ pos 0 → ⊥) → IsCloseRefused code e files
     pub failed : (code ≡ pos 11) ↔ (has_failed e ≡ true)
+    -- a crash leaves what it could leave before
     pub any_moment : MovesBy g.directory g.moments g.refusals_of (λ _. LeavesAllowed (folders_of e)
         (durable_of e) (unsynced_of e)) e.log.store.file_system files
-    -- what is known of atomic groups is found again, and of records of failed calls
+    -- facts about atomic groups and about records of failed calls are found again
     pub together : code ≡ pos 0 → has_groups_together e ≡ true
         → do_groups_ascend (readable_queue Rewrite (folders_of e) (g.directory files)) ≡ true
     pub completed : code ≡ pos 0 → FoundCompletedRecords e

@@ -12,7 +12,7 @@ use Rattle.raft_log_engine.specs.PurgeCalls.{PurgesLog}
 use Rattle.raft_log_engine.specs.RewriteGroups.{RenewsGroups}
 use Rattle.raft_log_engine.specs.declared.engine.Engine.{Engine}
 
--- what the engine's call says, clause by clause
+-- a rewriting of groups of the Append queue, by the clauses of the engine's call
 pub record IsGroupsRewrite {F H R W : Type 0} {g : Ghosts F H R W} (watermark from budget : ℕ)
     (old new : Engine F H R W g) (result : Result (Option ℕ) Fault) : Type 0 where
   pub log : PurgesLog Append ⊥ ⊥ result old new
@@ -20,7 +20,7 @@ pub record IsGroupsRewrite {F H R W : Type 0} {g : Ghosts F H R W} (watermark fr
   pub failed : (result ≡ Err fault.Failed) ↔ (has_failed old ≡ true)
   pub unchanged : has_failed old ≡ true → StaysFailed old new
 
--- .. of the Rewrite queue
+-- a rewriting of groups of the Rewrite queue, by the clauses of the engine's call
 pub record IsGroupsRenewal {F H R W : Type 0} {g : Ghosts F H R W} (from budget : ℕ)
     (old new : Engine F H R W g) (result : Result (Option ℕ) Fault) : Type 0 where
   pub log : PurgesLog Rewrite (HasOpenGroup new) (HasLastId new) result old new

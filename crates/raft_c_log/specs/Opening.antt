@@ -1,4 +1,4 @@
--- What an opening with settings as text hands back.
+-- The result of an opening with settings as text.
 use Rattle.std.specs.Prelude.{◌≡◌, ◌⊎◌, ℕ, List, ℤ, pos, Result, Ok, Err}
 use Rattle.std.specs.Str.{IsUtf8}
 use Rattle.raft_base.specs.Fault.{fault_code}
@@ -17,19 +17,18 @@ use Rattle.raft_log_engine.specs.declared.engine.Engine.{Engine}
 use Rattle.raft_log_engine.specs.declared.engine.Refused.{Refused}
 use Rattle.raft_settings.specs.Reading.{IsLoneReadRefusal, ReadsAlone}
 
--- bytes are no text, or no settings are read of them
+-- the bytes are no text, or no settings can be read of them
 abbrev pub IsTextRefusal : List ℕ → Fault → Type 0
 IsTextRefusal text e = ((fault_code e ≡ 1) × (IsUtf8 text → ⊥)) ⊎ IsLoneReadRefusal text e
 
--- the folders of a text's settings keep at each moment what they kept before; or no settings are read,
--- and nothing changes
+-- at each moment the text's folders keep what they kept; without settings nothing changes
 abbrev pub KeepsNamed : List ℕ → Directory → List Directory → List Directory → Directory → Type 0
 KeepsNamed text n before after now =
     ((settings : Config) × ReadsAlone text settings
     × HoldsThroughout before after now (StillRecovers (folders_in settings) n))
     ⊎ ((after ≡ before) × (now ≡ n))
 
--- an opening is refused by a fault of this code: the text's, or the engine's
+-- an opening fails with a fault of this code: the text's, or the engine's
 pub record IsUnopened (text : List ℕ) (code : ℤ) (n : Directory) (old new : Refusals)
     : Type 0 where
   pub fails : Fault
@@ -40,7 +39,7 @@ pub record IsUnopened (text : List ℕ) (code : ℤ) (n : Directory) (old new : 
       ⊎ IsOpeningRefusal settings.recovery_mode (folders_in settings) n old new fails))
 
 module _ {F H R W : Type 0} {g : Ghosts F H R W} where
-  -- an engine that was opened with a text's settings, as it opens with these, of files in these folders
+  -- an engine was opened with the settings of a text, over files in these folders
   pub record IsOpenedBy (text : List ℕ) (n : Directory) (e : Engine F H R W g) : Type 0 where
     pub settings : Config
     pub read : ReadsAlone text settings
@@ -48,14 +47,14 @@ module _ {F H R W : Type 0} {g : Ghosts F H R W} where
     pub found_in : g.directory found ≡ n
     pub opens : Opens settings found (Ok e)
 
-  -- files are opened with a text's settings, as an engine opens them
+  -- the result of an opening of these files with the settings of a text
   pub record OpensWithText (text : List ℕ) (found : F) (result : Result (Engine F H R W g) (Refused F))
       : Type 0 where
     pub settings : Config
     pub read : ReadsAlone text settings
     pub opens : Opens settings found result
 
-  -- .. or the text is refused, and they stay
+  -- OpensWithText, or the text is refused and the files are returned as they are
   abbrev pub OpensBy : List ℕ → F → Result (Engine F H R W g) (Refused F) → Type 0
   OpensBy text found result = OpensWithText text found result
       ⊎ ((e : Fault) × IsTextRefusal text e

@@ -1,4 +1,4 @@
--- What calls on an open log come to, by their codes.
+-- The codes of calls on an open log.
 use Rattle.std.specs.Prelude.{◌≡◌, ◌↔◌, true, false, Result, Ok, Err, ℤ, pos}
 use Rattle.raft_base.specs.Fault.{fault_code}
 use Rattle.raft_base.specs.declared.errors.Fault.{Fault}
@@ -12,21 +12,20 @@ use Rattle.raft_c_log.specs.declared.answer.Answer.{Answer}
 use Rattle.raft_c_log.specs.declared.calls.Change.{Change}
 use Rattle.raft_c_log.specs.declared.calls.Query.{Query}
 
--- 0 where a call is done, else the code of its fault
+-- 0 if a call succeeds, else the code of its fault
 abbrev pub code_of : Result (Unit {0}) Fault → ℤ
 code_of (Ok done) = pos 0
 code_of (Err e) = pos (fault_code e)
 
 module _ {F H R W : Type 0} {g : Ghosts F H R W} where
-  -- a change ended with this code, and did to the engine what the engine's clause of the call says
+  -- a change ended with this code, by the engine's clause of the call
   pub record HasEnded (change : Change) (code : ℤ) (old new : Engine F H R W g) (answer : Answer)
       : Type 0 where
     pub outcome : Result (Unit {0}) Fault
     pub code_is : code ≡ code_of outcome
     pub called : IsCalled change outcome old new answer
 
-  -- a query is answered with this code: 0 where what it asks for is there, 20 where it isn't, 11 by a
-  -- failed log alone. The log stays
+  -- a query returned this code: 0 found, 20 absent, 11 only if the log had failed; nothing changes
   pub record IsReply (q : Query) (code : ℤ) (old new : Engine F H R W g) (answer : Answer)
       : Type 0 where
     pub found : code ≡ pos 0 → HasAnswered q old answer true

@@ -20,33 +20,33 @@ use Rattle.raft_c_log.specs.declared.calls.Fetch.{Fetch}
 use Rattle.raft_c_log.specs.declared.calls.Query.{Query}
 use Rattle.raft_c_log.specs.declared.calls.Query.TheVariants as query
 
--- a failed engine refuses each call as `Failed`, and another one for a cause
+-- a failed engine refuses each call as `Failed`, a usable one for this cause
 abbrev pub IsRefusalFor : Bool → (Fault → Type 0) → Fault → Type 0
 IsRefusalFor failed cause e =
     ((failed ≡ true) × (e ≡ fault.Failed)) ⊎ ((failed ≡ false) × cause e)
 
--- bytes are no batch's, or they aren't added to one without items
+-- the bytes are no batch, or the batch is refused
 abbrev pub IsBytesRefusal : List ℕ → Fault → Type 0
 IsBytesRefusal bytes e = ((read_batch bytes ≡ None) × (fault_code e ≡ 1))
     ⊎ IsBatchRefusal [] bytes (Refused e)
 
 -- Reads.
 
--- as what the bytes of an entry are read
+-- the bytes of an entry are read as this one
 abbrev pub IsStoredAs : List ℕ → StoredEntry → Type 0
 IsStoredAs bytes e = (e.bytes.items ≡ bytes) × (index_in bytes ≡ Some e.index)
 
+-- the index of an entry
 abbrev pub index_of : StoredEntry → ℕ
 index_of e = e.index
 
 module _ {F H R W : Type 0} {g : Ghosts F H R W} where
-  -- a log file isn't read, or there was no memory, also for a copy of what was read
+  -- a log file can't be read, or memory ran out, also for a copy of what was read
   abbrev pub IsFileFault : Engine F H R W g → Engine F H R W g → Fault → Type 0
   IsFileFault old new e =
       FailsAt (NamesLog (folders_of old)) (refusals_of old) (refusals_of new) e
 
-  -- why an engine that hasn't failed doesn't answer a fetch of a group with entries or keys: by its
-  -- bounds; or these hold, and entries between them aren't read
+  -- why a usable engine fails a fetch of a non-empty group: its bounds, or an entry between them
   abbrev pub IsFetchFaultOf : Fetch → Engine F H R W g → Engine F H R W g → Fault → Type 0
   IsFetchFaultOf fetch old new e = let entries = (contents_of old).entries fetch.group in
       IsFetchRefusal fetch.begin fetch.end entries e
@@ -55,7 +55,7 @@ module _ {F H R W : Type 0} {g : Ghosts F H R W} where
       (entries_to_fetch length fetch.begin fetch.end (max_of fetch.max_size) entries) e
       ⊎ IsFileFault old new e))
 
-  -- .. a query. What finds nothing is answered, whatever memory there is, but the groups
+  -- why a usable engine fails a query: finding nothing needs no memory, except for the groups
   abbrev pub IsQueryFault : Query → Engine F H R W g → Engine F H R W g → Fault → Type 0
   IsQueryFault (query.Get group key) old new e =
       ((shown (contents_of old)).value group key.now ≡ None → ⊥) × (e ≡ fault.Memory)
@@ -69,7 +69,7 @@ module _ {F H R W : Type 0} {g : Ghosts F H R W} where
   IsQueryFault query.Groups old new e = e ≡ fault.Memory
   IsQueryFault (query.Span group) old new e = ⊥
 
-  -- it isn't answered, by a fault of this code
+  -- the query fails with a fault of this code
   pub record IsUnanswered (q : Query) (code : ℤ) (old new : Engine F H R W g) : Type 0 where
     pub fails : Fault
     pub code_is : code ≡ pos (fault_code fails)

@@ -21,20 +21,44 @@ pub(crate) fn print_items(
         from: asked.from,
         to: asked.to,
     };
-    if let Some((place, name)) = asked.file.and_then(at_last_slash) {
-        let options = Options {
-            spill: None,
-            ..request.options
-        };
-        let folder = Folder::open(rt, place, &options)?;
-        return dump(rt.alloc(), &folder, Some(name), filter, progress, out);
+    match asked.file.and_then(at_last_slash) {
+        Some((place, name)) => print_file(rt, request, place, name, filter, progress, out),
+        None => print_folder(rt, request, asked.file, filter, progress, out),
     }
+}
+
+// The items of a file anywhere.
+fn print_file(
+    rt: HostRuntime,
+    request: &Request<'_>,
+    place: &str,
+    name: &str,
+    filter: Filter,
+    progress: &mut Progress,
+    out: &mut Output,
+) -> Result<Status> {
+    let options = Options {
+        spill: None,
+        ..request.options
+    };
+    let folder = Folder::open(rt, place, &options)?;
+    dump(rt.alloc(), &folder, Some(name), filter, progress, out)
+}
+
+fn print_folder(
+    rt: HostRuntime,
+    request: &Request<'_>,
+    file: Option<&str>,
+    filter: Filter,
+    progress: &mut Progress,
+    out: &mut Output,
+) -> Result<Status> {
     let folder = Folder::open(rt, request.folder, &request.options)?;
     note_use(&rt, &folder, request)?;
-    if asked.file.is_none() {
+    if file.is_none() {
         note_unread(&rt, &folder, request, progress)?;
     }
-    dump(rt.alloc(), &folder, asked.file, filter, progress, out)
+    dump(rt.alloc(), &folder, file, filter, progress, out)
 }
 
 // The folder of a path with a `/`, and the name in it.

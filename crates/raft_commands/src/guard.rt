@@ -1,18 +1,18 @@
 //! What the opening before a change would lose: the change is refused, or what is lost is kept.
 
 use crate::changed::ChangedFiles;
-use crate::kept::{free_name, keep};
 use crate::opening::broken;
+use crate::taken::{Taken, give_back, note_moved};
+use crate::taking::{move_passed, move_strays, take_cuts};
 use anyhow::{Result, anyhow};
 use raft_command_line::{Request, Verb};
-use raft_console::{Progress, failure, note_made, tell};
+use raft_console::{Progress, or_failure, tell};
 use raft_env::FileSystem;
-use raft_inspect::{Cut, QueueFiles, cuts_of, inspect};
+use raft_inspect::inspect;
 use raft_looks::{BothQueues, Folder};
 use raft_opening_plan::{Change, Item, Kind, Plan, Row};
 use raft_records::{Fault, LogQueue};
-use std::alloc::{AllocError, Global};
-use std::{fs, io};
+use std::alloc::Global;
 
 /// What is told where a change is refused.
 const REFUSED: &str = "nothing was done: the plan above says what mends it, `check` prints more, \
@@ -21,23 +21,11 @@ const REFUSED: &str = "nothing was done: the plan above says what mends it, `che
 /// The same for a repair, which is refused for files that it doesn't cut.
 const UNREPAIRED: &str =
     "nothing was done: the plan above says what mends it, `check` prints more, \
-    and `repair --cut` moves aside what is passed over, or a stray in its place";
+    and `repair --cut` moves aside what is passed over, or a stray in its place, and forgets what is \
+    missing";
 
 /// How often strays are moved aside.
 const MOST_STRAYS: u64 = 1000;
-
-/// What an opening takes out of a log file.
-#[derive(Drop)]
-pub(crate) struct Taken {
-    pub path: String,
-    /// From where on bytes are cut off; none where the file is moved aside whole.
-    pub offset: Option<u64>,
-    pub len: u64,
-    /// Whether an earlier file left the bytes where this one stands.
-    pub stale: bool,
-    /// The path of the file that keeps it, from the folder on; none where none is kept.
-    pub kept: Option<String>,
-}
 
 /// The log files before an opening, and what it does with them.
 struct Survey {
@@ -64,64 +52,66 @@ pub(crate) fn guard<F: FileSystem + ChangedFiles>(
     request: &Request<'_>,
 ) -> Result<Option<Vec<Taken>>> {
     let survey = survey_files(rt, files, request)?;
-    if !moves_strays(&survey.plan, request) {
-        if let Some(item) = survey.plan.failing() {
-            survey.plan.tell(rt, &request.options)?;
-            return Err(failing(rt.alloc(), files, item, request));
-        }
-        if is_refused(&survey.plan, request) {
-            survey.plan.tell(rt, &request.options)?;
-            return refuse(rt, request);
-        }
-    }
-    if !request.options.quiet {
-        survey.plan.tell(rt, &request.options)?;
+    if !goes_on(rt, files, &survey.plan, request)? {
+        return Ok(None);
     }
     let mut taken = Vec::new(rt.alloc());
     match take(rt, files, survey, request, &mut taken) {
         Ok(()) => Ok(Some(taken)),
-        Err(error) => {
-            give_back(rt, request, &taken)?;
-            note_moved(rt, request, &taken)?;
-            Err(error)
-        }
+        Err(error) => Err(given_back(rt, request, &taken, error)),
     }
 }
 
-// The lock is held, so that the look at the folder tells of a writer.
-fn survey_files<F: FileSystem>(
+// What went wrong, after the files that keep something are deleted or told.
+fn given_back(
+    rt: &HostRuntime,
+    request: &Request<'_>,
+    taken: &[Taken],
+    error: anyhow::Error,
+) -> anyhow::Error {
+    if let Err(error) = give_back(rt, request, taken) {
+        return error;
+    }
+    match note_moved(rt, request, taken) {
+        Ok(()) => error,
+        Err(error) => error,
+    }
+}
+
+// Tells the plan, and whether the change goes on. It fails if the opening would.
+fn goes_on<F: FileSystem>(
     rt: &HostRuntime,
     files: &mut F,
+    plan: &Plan,
     request: &Request<'_>,
-) -> Result<Survey> {
+) -> Result<bool> {
     let options = &request.options;
-    let queues = match both_queues(rt.alloc(), files, &options.folders(rt.alloc())?) {
-        Ok(queues) => queues,
-        Err(fault) => return Err(failure("the files cannot be checked", &fault)),
-    };
-    let folder = Folder::open(*rt, request.folder, options)?;
-    let mut progress = Progress::of(*rt, options)?;
-    // The files of a folder that is opened are known to be allowed.
-    let plan = if options.changing.dry_run {
-        folder.whole_plan(&queues, options, &mut progress)?
-    } else {
-        folder.plan_of(&queues, options, &mut progress)?
-    };
-    match plan {
-        Some(plan) => Ok(Survey { queues, plan }),
-        None => Err(anyhow!("a file of it was deleted meanwhile").context(request.folder)),
+    if !moves_strays(plan, request) {
+        check_opens(rt, files, plan, request)?;
+        if is_refused(plan, request) {
+            plan.tell(rt, options)?;
+            refuse(rt, request)?;
+            return Ok(false);
+        }
     }
+    if !options.quiet {
+        plan.tell(rt, options)?;
+    }
+    Ok(true)
 }
 
-fn both_queues<F: FileSystem>(
-    alloc: Global,
+// Fails if the opening would, and tells the plan.
+fn check_opens<F: FileSystem>(
+    rt: &HostRuntime,
     files: &mut F,
-    folders: &[&str],
-) -> Result<BothQueues, Fault> {
-    Ok(BothQueues {
-        append: inspect(alloc, files, folders, LogQueue::Append)?,
-        rewrite: inspect(alloc, files, folders, LogQueue::Rewrite)?,
-    })
+    plan: &Plan,
+    request: &Request<'_>,
+) -> Result<()> {
+    let Some(item) = plan.failing() else {
+        return Ok(());
+    };
+    plan.tell(rt, &request.options)?;
+    Err(failing(rt.alloc(), files, item, request))
 }
 
 // Why the opening fails.
@@ -152,20 +142,68 @@ fn is_refused(plan: &Plan, request: &Request<'_>) -> bool {
     false
 }
 
-fn refuse(rt: &HostRuntime, request: &Request<'_>) -> Result<Option<Vec<Taken>>> {
+fn refuse(rt: &HostRuntime, request: &Request<'_>) -> Result<()> {
     let remedy = match &request.verb {
         Verb::Repair => UNREPAIRED,
         _ => REFUSED,
     };
     let text = format!(in rt.alloc(); "{}: {remedy}", request.folder)?;
-    tell(rt, request.options.json, "error", text.as_str())?;
-    Ok(None)
+    tell(rt, request.options.json, "error", text.as_str())
 }
 
 // Whether strays are to be moved aside, after which the opening may do something else.
 fn moves_strays(plan: &Plan, request: &Request<'_>) -> bool {
     let is_repair = matches!(&request.verb, Verb::Repair);
     is_repair && request.options.changing.cut && plan.has(Kind::Stray)
+}
+
+// The lock is held, so that the look at the folder tells of a writer.
+fn survey_files<F: FileSystem>(
+    rt: &HostRuntime,
+    files: &mut F,
+    request: &Request<'_>,
+) -> Result<Survey> {
+    let folders = request.options.folders(rt.alloc())?;
+    let queues = both_queues(rt.alloc(), files, &folders);
+    let queues = or_failure(queues, "the files cannot be checked")?;
+    let plan = plan_of(rt, &queues, request)?;
+    Ok(Survey { queues, plan })
+}
+
+/// The log files in these folders, and what can be read of each.
+pub(crate) fn both_queues<F: FileSystem>(
+    alloc: Global,
+    files: &mut F,
+    folders: &[&str],
+) -> Result<BothQueues, Fault> {
+    Ok(BothQueues {
+        append: inspect(alloc, files, folders, LogQueue::Append)?,
+        rewrite: inspect(alloc, files, folders, LogQueue::Rewrite)?,
+    })
+}
+
+fn plan_of(rt: &HostRuntime, queues: &BothQueues, request: &Request<'_>) -> Result<Plan> {
+    let folder = Folder::open(*rt, request.folder, &request.options)?;
+    match plan_in(rt, &folder, queues, request)? {
+        Some(plan) => Ok(plan),
+        None => Err(anyhow!("a file of it was deleted meanwhile").context(request.folder)),
+    }
+}
+
+// The files of a folder that is opened are known to be allowed.
+fn plan_in(
+    rt: &HostRuntime,
+    folder: &Folder,
+    queues: &BothQueues,
+    request: &Request<'_>,
+) -> Result<Option<Plan>> {
+    let options = &request.options;
+    let mut progress = Progress::of(*rt, options)?;
+    if options.changing.dry_run {
+        folder.whole_plan(queues, options, &mut progress)
+    } else {
+        folder.plan_of(queues, options, &mut progress)
+    }
 }
 
 // Keeps what is cut off. A repair moves strays aside first, and then what is still passed over.
@@ -176,6 +214,24 @@ fn take<F: FileSystem + ChangedFiles>(
     request: &Request<'_>,
     taken: &mut Vec<Taken>,
 ) -> Result<()> {
+    let survey = without_strays(rt, files, survey, request, taken)?;
+    check_opens(rt, files, &survey.plan, request)?;
+    files.delete_unread(rt)?;
+    take_cuts(rt, files, &survey.queues, request, taken)?;
+    if let Verb::Repair = &request.verb {
+        move_all_passed(rt, files, &survey, request, taken)?;
+    }
+    Ok(())
+}
+
+// What is found once no stray is left that is to be moved aside.
+fn without_strays<F: FileSystem + ChangedFiles>(
+    rt: &HostRuntime,
+    files: &mut F,
+    survey: Survey,
+    request: &Request<'_>,
+    taken: &mut Vec<Taken>,
+) -> Result<Survey> {
     let mut survey = survey;
     for _ in 0..MOST_STRAYS {
         if !moves_strays(&survey.plan, request) {
@@ -184,220 +240,17 @@ fn take<F: FileSystem + ChangedFiles>(
         move_strays(rt, files, &survey.plan, request, taken)?;
         survey = survey_files(rt, files, request)?;
     }
-    if let Some(item) = survey.plan.failing() {
-        survey.plan.tell(rt, &request.options)?;
-        return Err(failing(rt.alloc(), files, item, request));
-    }
-    files.delete_unread(rt)?;
-    take_cuts(rt, files, &survey.queues, request, taken)?;
-    if let Verb::Repair = &request.verb {
-        move_passed(rt, files, &survey.queues, request, taken)?;
-    }
-    Ok(())
+    Ok(survey)
 }
 
-fn take_cuts<F: FileSystem>(
+fn move_all_passed<F: FileSystem + ChangedFiles>(
     rt: &HostRuntime,
     files: &mut F,
-    queues: &BothQueues,
+    survey: &Survey,
     request: &Request<'_>,
     taken: &mut Vec<Taken>,
 ) -> Result<()> {
-    for found in [&queues.rewrite, &queues.append] {
-        let cuts = match cuts_of(rt.alloc(), found, request.options.mode) {
-            Ok(cuts) => cuts,
-            Err(fault) => return Err(failure("the files cannot be checked", &fault)),
-        };
-        for cut in &cuts {
-            taken.push(take_cut(rt, files, cut, request)?)?;
-        }
-    }
-    Ok(())
-}
-
-// What an earlier file left is kept by a repair alone.
-fn take_cut<F: FileSystem>(
-    rt: &HostRuntime,
-    files: &mut F,
-    cut: &Cut,
-    request: &Request<'_>,
-) -> Result<Taken> {
-    let is_repair = matches!(&request.verb, Verb::Repair);
-    let changing = request.options.changing;
-    let kept = if changing.no_keep || (cut.stale && !is_repair) {
-        None
-    } else {
-        Some(keep_cut(rt, files, cut, request)?)
-    };
-    Ok(Taken {
-        path: cut.path.clone()?,
-        offset: Some(cut.offset as u64),
-        len: cut.len as u64,
-        stale: cut.stale,
-        kept,
-    })
-}
-
-fn keep_cut<F: FileSystem>(
-    rt: &HostRuntime,
-    files: &mut F,
-    cut: &Cut,
-    request: &Request<'_>,
-) -> Result<String> {
-    let name = format!(in rt.alloc(); "{}.cut-{}", cut.path, cut.offset)?;
-    if request.options.changing.dry_run {
-        return free_name(rt, request.folder, name.as_str());
-    }
-    match cut.bytes(rt.alloc(), files) {
-        Ok(bytes) => keep(rt, request.folder, name.as_str(), &bytes),
-        Err(fault) => Err(failure("what is cut off cannot be read", &fault)),
-    }
-}
-
-fn move_strays<F: FileSystem + ChangedFiles>(
-    rt: &HostRuntime,
-    files: &mut F,
-    plan: &Plan,
-    request: &Request<'_>,
-    taken: &mut Vec<Taken>,
-) -> Result<()> {
-    for item in &plan.items {
-        if item.kind == Kind::Stray {
-            let moved = move_aside(rt, files, item.path.as_str(), "stray", request)?;
-            taken.push(moved)?;
-        }
-    }
-    Ok(())
-}
-
-// Moves aside the files of both queues that are passed over, if one of them holds something.
-fn move_passed<F: FileSystem + ChangedFiles>(
-    rt: &HostRuntime,
-    files: &mut F,
-    queues: &BothQueues,
-    request: &Request<'_>,
-    taken: &mut Vec<Taken>,
-) -> Result<()> {
-    for found in [&queues.rewrite, &queues.append] {
-        if found.passed().is_none() {
-            continue;
-        }
-        for file in found.files.get(..found.passed).unwrap_or(&[]) {
-            let moved = move_aside(rt, files, file.path.as_str(), "passed", request)?;
-            taken.push(moved)?;
-        }
-    }
-    Ok(())
-}
-
-fn move_aside<F: FileSystem + ChangedFiles>(
-    rt: &HostRuntime,
-    files: &mut F,
-    path: &str,
-    ending: &str,
-    request: &Request<'_>,
-) -> Result<Taken> {
-    let alloc = rt.alloc();
-    let kept = {
-        let name = format!(in alloc; "{path}.{ending}")?;
-        free_name(rt, request.folder, name.as_str())?
-    };
-    let len = fs::metadata(rt, format!(in alloc; "{}/{path}", request.folder)?.as_str())?.len();
-    if let Err(fault) = files.rename(path, kept.as_str()) {
-        files.tell_refusal(rt, request.options.json)?;
-        let fault = fault.with_path(alloc, path);
-        let text = format!(in alloc; "a file cannot be moved aside to {kept}")?;
-        return Err(failure(text.as_str(), &fault));
-    }
-    Ok(Taken {
-        path: String::from_str(alloc, path)?,
-        offset: None,
-        len,
-        stale: false,
-        kept: Some(kept),
-    })
-}
-
-/// Tells on standard error what an opening took out of log files.
-pub(crate) fn note_taken(rt: &HostRuntime, request: &Request<'_>, taken: &[Taken]) -> Result<()> {
-    for each in taken {
-        note_made(rt, &request.options, note_of(rt.alloc(), each))?;
-    }
-    Ok(())
-}
-
-/// Where a change failed: deletes the files that keep what the log still has, and tells the others.
-pub(crate) fn give_back(rt: &HostRuntime, request: &Request<'_>, taken: &[Taken]) -> Result<()> {
-    if request.options.changing.dry_run {
-        return Ok(());
-    }
-    for each in taken {
-        if let (Some(offset), Some(kept)) = (each.offset, &each.kept) {
-            give_back_one(rt, request, each, offset, kept.as_str())?;
-        }
-    }
-    Ok(())
-}
-
-fn give_back_one(
-    rt: &HostRuntime,
-    request: &Request<'_>,
-    taken: &Taken,
-    offset: u64,
-    kept: &str,
-) -> Result<()> {
-    let alloc = rt.alloc();
-    let log = format!(in alloc; "{}/{}", request.folder, taken.path)?;
-    let copy = format!(in alloc; "{}/{kept}", request.folder)?;
-    let is_left = match has_copied(rt, log.as_str(), offset, copy.as_str()) {
-        Ok(true) => fs::remove_file(rt, copy.as_str()).is_err(),
-        Ok(false) | Err(_) => true,
-    };
-    if is_left {
-        let (path, len) = (taken.path.as_str(), taken.len);
-        let text = format!(in alloc; "{kept} keeps {len} bytes of {path} from {offset} on");
-        return note_made(rt, &request.options, text);
-    }
-    Ok(())
-}
-
-// Where a change failed: tells of files that were moved aside before.
-fn note_moved(rt: &HostRuntime, request: &Request<'_>, taken: &[Taken]) -> Result<()> {
-    if request.options.changing.dry_run {
-        return Ok(());
-    }
-    for each in taken {
-        if let (None, Some(kept)) = (each.offset, &each.kept) {
-            let text = format!(in rt.alloc(); "{} was moved aside to {kept}", each.path);
-            note_made(rt, &request.options, text)?;
-        }
-    }
-    Ok(())
-}
-
-// Whether a file has the bytes of its copy at a place.
-fn has_copied(rt: &HostRuntime, log: &str, offset: u64, copy: &str) -> io::Result<bool> {
-    let bytes = fs::read(rt, log)?;
-    let copied = fs::read(rt, copy)?;
-    match bytes.get(usize::try_from(offset).unwrap_or(usize::MAX)..) {
-        Some(rest) => Ok(rest.starts_with(&copied)),
-        None => Ok(false),
-    }
-}
-
-fn note_of(alloc: Global, taken: &Taken) -> Result<String, AllocError> {
-    let (path, len) = (taken.path.as_str(), taken.len);
-    let offset = taken.offset.unwrap_or(0);
-    match &taken.kept {
-        Some(kept) => format!(in alloc;
-            "{path} was broken at {offset}: the {len} bytes from there on were cut off, \
-            and are kept in {kept}"
-        ),
-        None if taken.stale => format!(in alloc;
-            "{path}: {len} bytes from {offset} on, which an earlier file left, were cut off"
-        ),
-        None => format!(in alloc;
-            "{path} was broken at {offset}: the {len} bytes from there on were cut off"
-        ),
-    }
+    let plan = &survey.plan;
+    move_passed(rt, files, &survey.queues.rewrite, plan, request, taken)?;
+    move_passed(rt, files, &survey.queues.append, plan, request, taken)
 }

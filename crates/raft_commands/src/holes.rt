@@ -22,13 +22,8 @@ pub(crate) fn print_holes(
     if !request.options.quiet {
         plan.tell(rt, &request.options)?;
     }
-    let Some(image) = folder.image_in_one_folder(progress)? else {
+    let Some(holes) = holes_in(rt, folder, progress)? else {
         return Ok(None);
-    };
-    progress.begin("the entries are being looked through")?;
-    let holes = match consistency_check_with_file_system(rt.alloc(), "", image) {
-        Ok((holes, _)) => holes,
-        Err((fault, _)) => return Err(failure("the log cannot be looked through", &fault)),
     };
     add_holes(&holes, out)?;
     if !holes.is_empty() {
@@ -37,6 +32,22 @@ pub(crate) fn print_holes(
     match plan.status() {
         Status::Done if !holes.is_empty() => Ok(Some(Status::Absent)),
         status => Ok(Some(status)),
+    }
+}
+
+// Each group with a hole, and the last index before it; none where a file is there no more.
+fn holes_in(
+    rt: &HostRuntime,
+    folder: &Folder,
+    progress: &mut Progress,
+) -> Result<Option<Vec<(u64, u64)>>> {
+    let Some(image) = folder.image_in_one_folder(progress)? else {
+        return Ok(None);
+    };
+    progress.begin("the entries are being looked through")?;
+    match consistency_check_with_file_system(rt.alloc(), "", image) {
+        Ok((holes, _)) => Ok(Some(holes)),
+        Err((fault, _)) => Err(failure("the log cannot be looked through", &fault)),
     }
 }
 

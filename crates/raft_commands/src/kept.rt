@@ -9,12 +9,17 @@ use std::io::{self, ErrorKind, Write};
 pub(crate) fn keep(rt: &HostRuntime, folder: &str, name: &str, bytes: &[u8]) -> Result<String> {
     let free = free_name(rt, folder, name)?;
     let place = format!(in rt.alloc(); "{folder}/{free}")?;
+    keep_at(rt, place.as_str(), bytes)?;
+    Ok(free)
+}
+
+fn keep_at(rt: &HostRuntime, place: &str, bytes: &[u8]) -> Result<()> {
     let part = format!(in rt.alloc(); "{place}.part")?;
-    match fill(rt, part.as_str(), place.as_str(), bytes) {
-        Ok(()) => Ok(free),
+    match fill(rt, part.as_str(), place, bytes) {
+        Ok(()) => Ok(()),
         Err(e) => {
             let _ = fs::remove_file(rt, part.as_str());
-            Err(unkept(place.as_str(), &e))
+            Err(unkept(place, &e))
         }
     }
 }

@@ -20,6 +20,8 @@ mod repair;
 mod spares;
 mod stat;
 mod stored;
+mod taken;
+mod taking;
 mod waiting;
 mod writing;
 

@@ -3,7 +3,7 @@
 use anyhow::{Result, anyhow};
 use raft_command_line::Request;
 use raft_console::{
-    LineForm, Pair, Progress, Spelling, failure, file_or_input, or_failure, read_entry_lines,
+    GroupValue, LineForm, Pair, Progress, Spelling, file_or_input, or_failure, read_entry_lines,
     read_lines, read_values,
 };
 use raft_env::FileSystem;
@@ -15,11 +15,21 @@ use std::alloc::Global;
 const BATCH_BYTES: usize = 1024 * 1024;
 
 /// Values of entries of one group that follow one another, from an index on or behind the group's last entry.
-#[derive(Drop)]
 pub(crate) struct Run {
     pub group: u64,
     pub first: Option<u64>,
     pub values: Vec<Vec<u8>>,
+}
+
+// One call in a proof that drops it; derived, it would be one of each field (docs/DECISIONS.md).
+impl Drop for Run {
+    fn drop(self) {
+        let Run {
+            group: _,
+            first: _,
+            values: _values,
+        } = self;
+    }
 }
 
 /// Puts all keys and values of the lines, or none if one of them may not be put.
@@ -30,18 +40,23 @@ pub(crate) fn put_lines<F: FileSystem>(
     path: &str,
     request: &Request<'_>,
 ) -> Result<()> {
-    let text = file_or_input(rt, path)?;
-    let pairs = read_lines(rt.alloc(), &text, form_of(group, request))?;
-    let batches = match batches_of(rt.alloc(), pairs) {
-        Ok(batches) => batches,
-        Err(fault) => return Err(failure("the lines cannot be put", &fault)),
-    };
-    let mut progress = Progress::of(*rt, &request.options)?;
-    write_all(engine, batches, &mut progress)?;
+    let pairs = pairs_in(rt, path, group, request)?;
+    let batches = or_failure(batches_of(rt.alloc(), pairs), "the lines cannot be put")?;
+    write_all(rt, engine, batches, request)?;
     if request.sync {
         return or_failure(engine.sync(), "the lines cannot be synced");
     }
     Ok(())
+}
+
+fn pairs_in(
+    rt: &HostRuntime,
+    path: &str,
+    group: Option<u64>,
+    request: &Request<'_>,
+) -> Result<Vec<Pair>> {
+    let text = file_or_input(rt, path)?;
+    read_lines(rt.alloc(), &text, form_of(group, request))
 }
 
 fn form_of(group: Option<u64>, request: &Request<'_>) -> LineForm {
@@ -51,25 +66,38 @@ fn form_of(group: Option<u64>, request: &Request<'_>) -> LineForm {
     }
 }
 
-/// Adds the values of a file of lines behind each group's last one.
-pub(crate) fn read_value_file(
+/// These runs with the values of a file of lines behind each group's last one.
+pub(crate) fn with_value_file(
     rt: &HostRuntime,
     path: &str,
     group: Option<u64>,
     request: &Request<'_>,
-    runs: &mut Vec<Run>,
-) -> Result<()> {
+    runs: Vec<Run>,
+) -> Result<Vec<Run>> {
+    let values = values_in(rt, path, group, request)?;
+    let mut runs = runs;
+    for (group, value) in values {
+        add_value(rt.alloc(), &mut runs, group, value)?;
+    }
+    Ok(runs)
+}
+
+fn values_in(
+    rt: &HostRuntime,
+    path: &str,
+    group: Option<u64>,
+    request: &Request<'_>,
+) -> Result<Vec<GroupValue>> {
     let text = file_or_input(rt, path)?;
     match read_values(rt.alloc(), &text, form_of(group, request)) {
-        Ok(values) => {
-            for (group, value) in values {
-                let run = run_of(rt.alloc(), runs, group, None)?;
-                run.values.push(value)?;
-            }
-            Ok(())
-        }
+        Ok(values) => Ok(values),
         Err(error) => Err(error.context(path)),
     }
+}
+
+fn add_value(alloc: Global, runs: &mut Vec<Run>, group: u64, value: Vec<u8>) -> Result<()> {
+    let run = run_of(alloc, runs, group, None)?;
+    Ok(run.values.push(value)?)
 }
 
 /// The entries of a file of lines, whose indexes rise by one in each group.
@@ -122,17 +150,17 @@ fn run_of(alloc: Global, runs: &mut Vec<Run>, group: u64, first: Option<u64>) ->
 }
 
 fn write_all<F: FileSystem>(
+    rt: &HostRuntime,
     engine: &mut Engine<F>,
     mut batches: Vec<LogBatch>,
-    progress: &mut Progress,
+    request: &Request<'_>,
 ) -> Result<()> {
+    let mut progress = Progress::of(*rt, &request.options)?;
     let count = batches.len() as u64;
     let mut written = 0u64;
     for batch in &mut batches {
         progress.at("batches written", written, count)?;
-        if let Err(fault) = engine.write(batch, false) {
-            return Err(failure("the lines cannot be put", &fault));
-        }
+        or_failure(engine.write(batch, false), "the lines cannot be put")?;
         written = written.saturating_add(1);
     }
     Ok(())

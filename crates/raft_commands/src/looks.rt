@@ -10,12 +10,12 @@ use crate::stored::Total;
 use crate::{entries, keys, numbered};
 use anyhow::{Result, anyhow};
 use raft_command_line::{Look, Request};
-use raft_console::{Output, Progress, Status, bytes_of, note_made};
+use raft_console::{Output, Progress, Status, note_made};
 use raft_contents::sum;
 use raft_env::FileSystem;
 use raft_inspect::Cut;
 use raft_log_engine::Engine;
-use raft_looks::{Folder, check};
+use raft_looks::{Folder, ReservedFile, check};
 use raft_memory::MemoryFileSystem;
 use raft_records::LogQueue;
 use std::alloc::{AllocError, Global};
@@ -69,29 +69,28 @@ fn look_once<R: Threads + Sync>(
     }
     let folder = Folder::open(rt, request.folder, &request.options)?;
     note_use(&rt, &folder, request)?;
-    if let Look::Check = look {
-        return check(rt.alloc(), &folder, &request.options, progress, out);
+    match look {
+        Look::Check => check(rt.alloc(), &folder, &request.options, progress, out),
+        Look::Consistency => print_holes(&rt, &folder, request, progress, out),
+        _ => look_at_contents(&rt, threads, folder, request, look, progress, out),
     }
-    if let Look::Consistency = look {
-        return print_holes(&rt, &folder, request, progress, out);
-    }
-    note_unread(&rt, &folder, request, progress)?;
-    match read_all(&rt, folder, request, progress)? {
-        Some(reading) => {
-            progress.begin("the log is being opened in memory")?;
-            let status = show(
-                &rt,
-                threads,
-                reading.image,
-                reading.reserved,
-                request,
-                look,
-                out,
-            )?;
-            Ok(Some(status))
-        }
-        None => Ok(None),
-    }
+}
+
+fn look_at_contents<R: Threads + Sync>(
+    rt: &HostRuntime,
+    threads: &R,
+    folder: Folder,
+    request: &Request<'_>,
+    look: Look<'_>,
+    progress: &mut Progress,
+    out: &mut Output,
+) -> Result<Option<Status>> {
+    note_unread(rt, &folder, request, progress)?;
+    let Some(reading) = read_all(rt, folder, request, progress)? else {
+        return Ok(None);
+    };
+    progress.begin("the log is being opened in memory")?;
+    Ok(Some(show(rt, threads, reading, request, look, out)?))
 }
 
 /// Says that a writer has the folder open.
@@ -131,11 +130,18 @@ fn read_all(
         return Ok(None);
     };
     note_cuts(rt, &folder, &mut image, request)?;
-    let mut reserved = Total::new();
-    for file in &folder.reserved {
-        reserved.add(file.len);
+    Ok(Some(Reading {
+        image,
+        reserved: total_of(&folder.reserved),
+    }))
+}
+
+fn total_of(files: &[ReservedFile]) -> Total {
+    let mut total = Total::new();
+    for file in files {
+        total.add(file.len);
     }
-    Ok(Some(Reading { image, reserved }))
+    total
 }
 
 // Says what of the files an opening leaves out, where it doesn't fail; what an earlier file left is
@@ -164,30 +170,41 @@ fn told_of(alloc: Global, cut: &Cut) -> Result<String, AllocError> {
 }
 
 // What is found in files that are all in memory.
-fn show<R: Threads + Sync, F: FileSystem + Drop>(
+fn show<R: Threads + Sync>(
     rt: &HostRuntime,
     threads: &R,
-    mut image: F,
-    reserved: Total,
+    reading: Reading,
     request: &Request<'_>,
     look: Look<'_>,
     out: &mut Output,
 ) -> Result<Status> {
-    let options = &request.options;
+    let Reading {
+        mut image,
+        reserved,
+    } = reading;
     match look {
-        Look::Stat => stat(threads, rt.alloc(), image, reserved, options, out),
+        Look::Stat => stat(threads, rt.alloc(), image, reserved, &request.options, out),
         Look::Picture => print_picture(rt, &mut image, request),
-        _ => {
-            let mut engine = open_image(threads, rt.alloc(), image, options)?;
-            let found = find(rt, &mut engine, request, look, out);
-            engine.give_up();
-            if found? {
-                return Ok(Status::Done);
-            }
-            note_made(rt, options, told_absent(rt.alloc(), look))?;
-            Ok(Status::Absent)
-        }
+        _ => show_found(rt, threads, image, request, look, out),
     }
+}
+
+fn show_found<R: Threads + Sync, F: FileSystem + Drop>(
+    rt: &HostRuntime,
+    threads: &R,
+    image: F,
+    request: &Request<'_>,
+    look: Look<'_>,
+    out: &mut Output,
+) -> Result<Status> {
+    let mut engine = open_image(threads, rt.alloc(), image, &request.options)?;
+    let found = find(rt, &mut engine, request, look, out);
+    engine.give_up();
+    if found? {
+        return Ok(Status::Done);
+    }
+    note_made(rt, &request.options, told_absent(rt.alloc(), look))?;
+    Ok(Status::Absent)
 }
 
 // Prints what an engine finds, and says whether it is there.
@@ -198,23 +215,46 @@ fn find<F: FileSystem>(
     look: Look<'_>,
     out: &mut Output,
 ) -> Result<bool> {
+    match look {
+        Look::Get(_, _) | Look::Scan(_, _) | Look::List(_, _) | Look::Verify(_) => {
+            find_keys(rt, engine, request, look, out)
+        }
+        _ => find_entries(rt, engine, look, out),
+    }
+}
+
+fn find_keys<F: FileSystem>(
+    rt: &HostRuntime,
+    engine: &Engine<F>,
+    request: &Request<'_>,
+    look: Look<'_>,
+    out: &mut Output,
+) -> Result<bool> {
     let options = &request.options;
     match look {
-        Look::Get(group, key) => {
-            let key = bytes_of(rt, key, options.hex)?;
-            keys::get(engine, group, &key, out)
-        }
+        Look::Get(group, key) => keys::get(rt, engine, group, key, options, out),
         Look::Scan(group, range) => keys::scan(rt, engine, group, range, options),
         Look::List(group, limit) => keys::list(rt, engine, group, limit, options),
+        Look::Verify(load) => numbered::verify(rt, engine, load, options, out),
+        _ => Ok(true),
+    }
+}
+
+fn find_entries<F: FileSystem>(
+    rt: &HostRuntime,
+    engine: &mut Engine<F>,
+    look: Look<'_>,
+    out: &mut Output,
+) -> Result<bool> {
+    match look {
         Look::Entry(group, index) => entries::get(engine, group, index, out),
         Look::Entries(group, range) => entries::list(rt.alloc(), engine, group, range, out),
         Look::Groups => entries::groups(engine, out),
-        Look::Verify(load) => numbered::verify(rt, engine, load, options, out),
         Look::Sum(group, indexes) => {
             sum(rt.alloc(), engine, group, indexes, out)?;
             Ok(true)
         }
         // Done before.
-        Look::Stat | Look::Dump(_) | Look::Check | Look::Consistency | Look::Picture => Ok(true),
+        _ => Ok(true),
     }
 }

@@ -37,21 +37,23 @@ fn open_without_empty<R: Threads + Sync, F: FileSystem + ChangedFiles + Drop>(
     refused: Refused<F>,
     options: &Options<'_>,
 ) -> Result<Engine<F>> {
-    let alloc = rt.alloc();
-    let Refused {
-        fault,
-        mut file_system,
-    } = refused;
-    if let Fault::Io(IoKind::NoSpace, _) = &fault {
-        if delete_empty(rt, &mut file_system, options)? {
-            let config = config(alloc, options)?;
-            return match Engine::open_with_file_system(threads, alloc, config, file_system) {
-                Ok(engine) => Ok(engine),
-                Err(refused) => Err(told_refusal(rt, refused, options)),
-            };
-        }
+    let mut refused = refused;
+    if !is_full(&refused.fault) || !delete_empty(rt, &mut refused.file_system, options)? {
+        return Err(told_refusal(rt, refused, options));
     }
-    Err(told_refusal(rt, Refused { fault, file_system }, options))
+    let Refused {
+        fault: _fault,
+        file_system,
+    } = refused;
+    let config = config(rt.alloc(), options)?;
+    match Engine::open_with_file_system(threads, rt.alloc(), config, file_system) {
+        Ok(engine) => Ok(engine),
+        Err(refused) => Err(told_refusal(rt, refused, options)),
+    }
+}
+
+fn is_full(fault: &Fault) -> bool {
+    matches!(fault, Fault::Io(IoKind::NoSpace, _))
 }
 
 // What couldn't be opened; what the system refused is told.
@@ -72,24 +74,31 @@ fn delete_empty<F: FileSystem + ChangedFiles>(
     files: &mut F,
     options: &Options<'_>,
 ) -> Result<bool> {
-    let alloc = rt.alloc();
     let mut is_one = false;
     for queue in &[LogQueue::Append, LogQueue::Rewrite] {
-        let Some(path) = empty_last(alloc, files, *queue, options)? else {
-            continue;
-        };
-        if let Err(fault) = files.delete(path.as_str()) {
-            files.tell_refusal(rt, options.json)?;
-            let fault = fault.with_path(alloc, path.as_str());
-            return Err(failure("an empty file cannot be deleted", &fault));
+        if let Some(path) = empty_last(rt.alloc(), files, *queue, options)? {
+            delete_file(rt, files, path.as_str(), options)?;
+            is_one = true;
         }
-        let text = format!(in alloc;
-            "{path} held nothing, and no space is left for its header: it was deleted"
-        );
-        note_made(rt, options, text)?;
-        is_one = true;
     }
     Ok(is_one)
+}
+
+fn delete_file<F: FileSystem + ChangedFiles>(
+    rt: &HostRuntime,
+    files: &mut F,
+    path: &str,
+    options: &Options<'_>,
+) -> Result<()> {
+    if let Err(fault) = files.delete(path) {
+        files.tell_refusal(rt, options.json)?;
+        let fault = fault.with_path(rt.alloc(), path);
+        return Err(failure("an empty file cannot be deleted", &fault));
+    }
+    let text = format!(in rt.alloc();
+        "{path} held nothing, and no space is left for its header: it was deleted"
+    );
+    note_made(rt, options, text)
 }
 
 fn empty_last<F: FileSystem>(
@@ -191,12 +200,22 @@ pub(crate) fn broken<F: FileSystem>(
 ) -> Result<Option<String>, Fault> {
     let folders = options.folders(alloc)?;
     for queue in &[LogQueue::Append, LogQueue::Rewrite] {
-        let found = inspect(alloc, files, &folders, *queue)?;
-        if let Some(said) = broken_place(alloc, &found, options.mode)? {
+        if let Some(said) = broken_in(alloc, files, &folders, *queue, options.mode)? {
             return Ok(Some(said));
         }
     }
     Ok(None)
+}
+
+fn broken_in<F: FileSystem>(
+    alloc: Global,
+    files: &mut F,
+    folders: &[&str],
+    queue: LogQueue,
+    mode: RecoveryMode,
+) -> Result<Option<String>, Fault> {
+    let found = inspect(alloc, files, folders, queue)?;
+    broken_place(alloc, &found, mode)
 }
 
 fn broken_place(

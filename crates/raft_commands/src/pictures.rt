@@ -1,12 +1,13 @@
 //! A picture of the files, and of what the index still refers to.
 
+use crate::guard::both_queues;
 use crate::opening::broken;
 use anyhow::{Result, anyhow};
 use raft_command_line::{Options, Request};
 use raft_console::{Status, failure, print_bytes};
 use raft_env::FileSystem;
-use raft_inspect::{draw, inspect, measure};
-use raft_records::{Fault, LogQueue};
+use raft_inspect::{draw, measure};
+use raft_records::Fault;
 use std::alloc::Global;
 
 pub(crate) fn print_picture<F: FileSystem>(
@@ -36,8 +37,7 @@ fn drawn<F: FileSystem>(
     options: &Options<'_>,
 ) -> Result<String, Fault> {
     let folders = options.folders(alloc)?;
-    let rewrite = inspect(alloc, image, &folders, LogQueue::Rewrite)?;
-    let append = inspect(alloc, image, &folders, LogQueue::Append)?;
-    let usage = measure(alloc, image, &rewrite, &append)?;
+    let queues = both_queues(alloc, image, &folders)?;
+    let usage = measure(alloc, image, &queues.rewrite, &queues.append)?;
     Ok(draw(alloc, title, &usage)?)
 }

@@ -23,15 +23,44 @@ pub(crate) fn purge<R: Threads + Sync, F: FileSystem + ChangedFiles + Drop>(
     options: &Options<'_>,
     out: &mut Output,
 ) -> Result<Status> {
-    let alloc = rt.alloc();
+    let before = find(rt.alloc(), &mut files, options)?;
+    let left = purge_files(rt, threads, files, purge, options, out)?;
+    tell_left(rt, left, purge, &before, options, out)
+}
+
+fn purge_files<R: Threads + Sync, F: FileSystem + ChangedFiles + Drop>(
+    rt: &HostRuntime,
+    threads: &R,
+    files: F,
+    purge: Purge,
+    options: &Options<'_>,
+    out: &mut Output,
+) -> Result<F> {
     let mut progress = Progress::of(*rt, options)?;
-    let before = find(alloc, &mut files, options)?;
     progress.begin("the log is being opened")?;
     let engine = open(rt, threads, files, options)?;
-    let mut left = purge_and_close(rt, engine, purge, options.json, &mut progress, out)?;
-    let after = find(alloc, &mut left, options)?;
+    purge_and_close(rt, engine, purge, options.json, &mut progress, out)
+}
+
+fn tell_left<F: FileSystem + Drop>(
+    rt: &HostRuntime,
+    mut left: F,
+    purge: Purge,
+    before: &Stored,
+    options: &Options<'_>,
+    out: &mut Output,
+) -> Result<Status> {
+    let reserved = reserved_in(rt.alloc(), &mut left, options)?;
     let gone = before.gone(&left);
-    tell_gone(rt, purge, &before, gone, after.reserved, options, out)
+    tell_gone(rt, purge, before, gone, reserved, options, out)
+}
+
+fn reserved_in<F: FileSystem>(
+    alloc: Global,
+    files: &mut F,
+    options: &Options<'_>,
+) -> Result<Total> {
+    Ok(find(alloc, files, options)?.reserved)
 }
 
 fn tell_gone(
@@ -59,28 +88,45 @@ fn cause_of(
     before: &Stored,
     options: &Options<'_>,
 ) -> Result<String, AllocError> {
-    let (append, rewrite) = before.by_queue();
     match purge {
-        Purge::Expired => {
-            let config = config(alloc, options)?;
-            let (most, most_rewrite) = (config.purge_threshold.0, config.rewrite_threshold().0);
+        Purge::Expired => cause_of_expired(alloc, before, options),
+        Purge::Stale => {
+            let (append, _) = before.by_queue();
             format!(in alloc;
-                "nothing was dropped: the Append queue has {} bytes in {} files, and \
-                purge-threshold is {most}; the Rewrite queue has {} bytes in {} files, and \
-                purge-rewrite-threshold is {most_rewrite}; the last file of a queue stays",
-                append.bytes, append.files, rewrite.bytes, rewrite.files
+                "nothing was dropped: something counts in the first of {} files of the Append \
+                queue",
+                append.files
             )
         }
-        Purge::Stale => format!(in alloc;
-            "nothing was dropped: something counts in the first of {} files of the Append queue",
-            append.files
-        ),
-        Purge::Append | Purge::Rewrite => format!(in alloc;
-            "nothing was dropped: the Append queue has {} files and the Rewrite queue {}, \
-            and the last one of a queue stays",
-            append.files, rewrite.files
-        ),
+        Purge::Append | Purge::Rewrite => {
+            let (append, rewrite) = before.by_queue();
+            format!(in alloc;
+                "nothing was dropped: the Append queue has {} files and the Rewrite queue {}, \
+                and the last one of a queue stays",
+                append.files, rewrite.files
+            )
+        }
     }
+}
+
+fn cause_of_expired(
+    alloc: Global,
+    before: &Stored,
+    options: &Options<'_>,
+) -> Result<String, AllocError> {
+    let (append, rewrite) = before.by_queue();
+    let (most, most_rewrite) = thresholds(alloc, options)?;
+    format!(in alloc;
+        "nothing was dropped: the Append queue has {} bytes in {} files, and \
+        purge-threshold is {most}; the Rewrite queue has {} bytes in {} files, and \
+        purge-rewrite-threshold is {most_rewrite}; the last file of a queue stays",
+        append.bytes, append.files, rewrite.bytes, rewrite.files
+    )
+}
+
+fn thresholds(alloc: Global, options: &Options<'_>) -> Result<(u64, u64), AllocError> {
+    let config = config(alloc, options)?;
+    Ok((config.purge_threshold.0, config.rewrite_threshold().0))
 }
 
 fn find<F: FileSystem>(alloc: Global, files: &mut F, options: &Options<'_>) -> Result<Stored> {

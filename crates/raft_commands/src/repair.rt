@@ -1,13 +1,15 @@
 //! Cuts off what an opening cuts, and keeps it in files beside.
 
 use crate::changed::ChangedFiles;
-use crate::guard::{Taken, give_back, guard};
+use crate::guard::guard;
 use crate::opening::{close, open};
+use crate::taken::{Taken, give_back};
 use anyhow::Result;
 use raft_command_line::Request;
 use raft_console::{Output, Status};
 use raft_env::FileSystem;
 use raft_inspect::Word;
+use raft_log_engine::Engine;
 use std::thread::Threads;
 
 /// Opens the log in the mode of the options, and prints what that took out of its files and where it
@@ -23,14 +25,7 @@ pub(crate) fn repair<R: Threads + Sync, F: FileSystem + ChangedFiles + Drop>(
         return Ok(Status::Refused);
     };
     match open(rt, threads, files, &request.options) {
-        Ok(engine) => {
-            if let Err(error) = add_taken(&taken, false, out) {
-                engine.give_up();
-                return Err(error);
-            }
-            close(rt, engine, request.options.json)?;
-            Ok(Status::Done)
-        }
+        Ok(engine) => end(rt, engine, request, &taken, out),
         Err(error) => {
             give_back(rt, request, &taken)?;
             add_taken(&taken, true, out)?;
@@ -39,23 +34,42 @@ pub(crate) fn repair<R: Threads + Sync, F: FileSystem + ChangedFiles + Drop>(
     }
 }
 
+fn end<F: FileSystem + ChangedFiles + Drop>(
+    rt: &HostRuntime,
+    engine: Engine<F>,
+    request: &Request<'_>,
+    taken: &[Taken],
+    out: &mut Output,
+) -> Result<Status> {
+    if let Err(error) = add_taken(taken, false, out) {
+        engine.give_up();
+        return Err(error);
+    }
+    close(rt, engine, request.options.json)?;
+    Ok(Status::Done)
+}
+
 // Prints what was taken, or what was moved aside alone.
 fn add_taken(taken: &[Taken], moved: bool, out: &mut Output) -> Result<()> {
     for each in taken {
         if moved && each.offset.is_some() {
             continue;
         }
-        let file = ("file", Word::Bytes(each.path.as_bytes()));
-        let bytes = ("bytes", Word::Number(each.len));
-        let kept = match &each.kept {
-            Some(kept) => kept.as_str(),
-            None => "",
-        };
-        let kept = ("kept", Word::Bytes(kept.as_bytes()));
-        match each.offset {
-            Some(offset) => out.named(&[file, ("cut", Word::Number(offset)), bytes, kept])?,
-            None => out.named(&[file, ("passed", Word::Number(each.len)), kept])?,
-        }
+        add_one(each, out)?;
     }
     out.print()
+}
+
+fn add_one(taken: &Taken, out: &mut Output) -> Result<()> {
+    let file = ("file", Word::Bytes(taken.path.as_bytes()));
+    let bytes = ("bytes", Word::Number(taken.len));
+    let kept = match &taken.kept {
+        Some(kept) => kept.as_str(),
+        None => "",
+    };
+    let kept = ("kept", Word::Bytes(kept.as_bytes()));
+    match taken.offset {
+        Some(offset) => out.named(&[file, ("cut", Word::Number(offset)), bytes, kept]),
+        None => out.named(&[file, ("passed", Word::Number(taken.len)), kept]),
+    }
 }

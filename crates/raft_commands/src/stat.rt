@@ -1,27 +1,38 @@
 //! What a folder holds, in numbers.
 
+use crate::guard::both_queues;
 use crate::keys::count;
 use crate::opening::open_image;
 use crate::stored::Total;
 use anyhow::Result;
 use raft_command_line::Options;
-use raft_console::{Output, Status, failure, or_failure};
+use raft_console::{Output, Status, or_failure};
 use raft_env::FileSystem;
-use raft_inspect::{
-    Field, FileUsage, Lines, LogUsage, Outlook, QueueFiles, Word, inspect, measure,
-};
+use raft_inspect::{Field, FileUsage, Lines, LogUsage, Outlook, QueueFiles, Word, measure};
 use raft_log_engine::Engine;
-use raft_records::{Fault, LogQueue};
+use raft_looks::BothQueues;
+use raft_records::Fault;
 use std::alloc::Global;
 use std::thread::Threads;
 
 /// The log files, what an opening would lose of them, and how much of them is live.
-#[derive(Drop)]
 struct Sizes {
     log: Total,
     passed: u64,
     outlook: Outlook,
     usage: LogUsage,
+}
+
+// One call in a proof that drops it; derived, it would be one of each field (docs/DECISIONS.md).
+impl Drop for Sizes {
+    fn drop(self) {
+        let Sizes {
+            log: _,
+            passed: _,
+            outlook: _outlook,
+            usage: _usage,
+        } = self;
+    }
 }
 
 /// What a group holds.
@@ -45,18 +56,25 @@ pub(crate) fn stat<R: Threads + Sync, F: FileSystem + Drop>(
     options: &Options<'_>,
     out: &mut Output,
 ) -> Result<Status> {
-    let sizes = match sizes_of(alloc, &mut files, options) {
-        Ok(sizes) => sizes,
-        Err(fault) => return Err(failure("the log cannot be measured", &fault)),
-    };
+    let sizes = sizes_of(alloc, &mut files, options);
+    let sizes = or_failure(sizes, "the log cannot be measured")?;
+    let held = held_in(threads, alloc, files, &sizes.usage, options)?;
+    let added = add_all(alloc, &held, &sizes, reserved, options, &mut out.lines);
+    or_failure(added, "the log cannot be told")?;
+    Ok(Status::Done)
+}
+
+fn held_in<R: Threads + Sync, F: FileSystem + Drop>(
+    threads: &R,
+    alloc: Global,
+    files: F,
+    usage: &LogUsage,
+    options: &Options<'_>,
+) -> Result<Vec<Held>> {
     let engine = open_image(threads, alloc, files, options)?;
-    let held = held_of(alloc, &engine, &sizes.usage);
+    let held = held_of(alloc, &engine, usage);
     engine.give_up();
-    let held = or_failure(held, "the log cannot be read")?;
-    match add_all(alloc, &held, &sizes, reserved, options, &mut out.lines) {
-        Ok(()) => Ok(Status::Done),
-        Err(fault) => Err(failure("the log cannot be told", &fault)),
-    }
+    or_failure(held, "the log cannot be read")
 }
 
 fn sizes_of<F: FileSystem>(
@@ -64,20 +82,26 @@ fn sizes_of<F: FileSystem>(
     files: &mut F,
     options: &Options<'_>,
 ) -> Result<Sizes, Fault> {
-    let folders = options.folders(alloc)?;
-    let append = inspect(alloc, files, &folders, LogQueue::Append)?;
-    let rewrite = inspect(alloc, files, &folders, LogQueue::Rewrite)?;
-    let usage = measure(alloc, files, &rewrite, &append)?;
+    let queues = queues_of(alloc, files, options)?;
+    let usage = measure(alloc, files, &queues.rewrite, &queues.append)?;
     let mut sizes = Sizes {
         log: Total::new(),
         passed: 0,
         outlook: Outlook::new(),
         usage,
     };
-    for found in [&append, &rewrite] {
-        sizes.add_queue(alloc, found, options)?;
-    }
+    sizes.add_queue(alloc, &queues.append, options)?;
+    sizes.add_queue(alloc, &queues.rewrite, options)?;
     Ok(sizes)
+}
+
+fn queues_of<F: FileSystem>(
+    alloc: Global,
+    files: &mut F,
+    options: &Options<'_>,
+) -> Result<BothQueues, Fault> {
+    let folders = options.folders(alloc)?;
+    both_queues(alloc, files, &folders)
 }
 
 impl Sizes {
@@ -103,18 +127,26 @@ fn held_of<F: FileSystem>(
 ) -> Result<Vec<Held>, Fault> {
     let mut held = Vec::new(alloc);
     for group in engine.raft_groups()? {
-        let span = match (engine.first_index(group), engine.last_index(group)) {
-            (Some(first), Some(last)) => Some((first, last)),
-            _ => None,
-        };
-        held.push(Held {
-            group,
-            keys: count(engine, group)?,
-            live: live_of(group, usage),
-            span,
-        })?;
+        held.push(held_of_group(engine, group, usage)?)?;
     }
     Ok(held)
+}
+
+fn held_of_group<F: FileSystem>(
+    engine: &Engine<F>,
+    group: u64,
+    usage: &LogUsage,
+) -> Result<Held, Fault> {
+    let span = match (engine.first_index(group), engine.last_index(group)) {
+        (Some(first), Some(last)) => Some((first, last)),
+        _ => None,
+    };
+    Ok(Held {
+        group,
+        keys: count(engine, group)?,
+        live: live_of(group, usage),
+        span,
+    })
 }
 
 fn live_of(group: u64, usage: &LogUsage) -> u64 {
@@ -137,10 +169,8 @@ fn add_all(
 ) -> Result<(), Fault> {
     let totals = totals_of(held, sizes, reserved);
     if options.json {
-        let mut groups = Lines::new(alloc, true, options.hex);
-        add_groups(held, &mut groups)?;
-        let mut files = Lines::new(alloc, true, options.hex);
-        add_files(&sizes.usage, &mut files)?;
+        let groups = groups_in_json(alloc, held, options.hex)?;
+        let files = files_in_json(alloc, &sizes.usage, options.hex)?;
         lines.document(&totals, &[("by-group", &groups), ("by-file", &files)])?;
         return Ok(());
     }
@@ -149,6 +179,18 @@ fn add_all(
     }
     add_groups(held, lines)?;
     add_files(&sizes.usage, lines)
+}
+
+fn groups_in_json(alloc: Global, held: &[Held], hex: bool) -> Result<Lines, Fault> {
+    let mut groups = Lines::new(alloc, true, hex);
+    add_groups(held, &mut groups)?;
+    Ok(groups)
+}
+
+fn files_in_json(alloc: Global, usage: &LogUsage, hex: bool) -> Result<Lines, Fault> {
+    let mut files = Lines::new(alloc, true, hex);
+    add_files(usage, &mut files)?;
+    Ok(files)
 }
 
 fn totals_of(held: &[Held], sizes: &Sizes, reserved: Total) -> [Field<'static>; 13] {

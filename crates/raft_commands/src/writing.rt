@@ -3,13 +3,14 @@
 use crate::changed::ChangedFiles;
 use crate::changes::{Change, write};
 use crate::entries::{append, compact, note_emptied};
-use crate::guard::{give_back, guard, note_taken};
-use crate::lines::{Run, put_lines, read_entry_file, read_value_file};
+use crate::guard::guard;
+use crate::lines::{Run, put_lines, read_entry_file, with_value_file};
 use crate::numbered::load;
 use crate::opening::{close, open};
 use crate::purging::purge;
 use crate::repair::repair;
 use crate::spares::make_ahead;
+use crate::taken::{Taken, give_back, note_taken};
 use crate::waiting::open_folder;
 use anyhow::{Result, anyhow};
 use raft_command_line::{Request, Verb};
@@ -111,25 +112,44 @@ fn change_files<R: Threads + Sync, F: FileSystem + ChangedFiles + Drop>(
     let Some(taken) = guard(rt, &mut files, request)? else {
         return Ok(Status::Refused);
     };
-    if let Err(error) = make_ahead(rt, &mut files, &request.options) {
-        give_back(rt, request, &taken)?;
-        return Err(error);
-    }
-    let changed = match &request.verb {
-        Verb::Purge(which) => purge(rt, threads, files, *which, &request.options, &mut out),
-        _ => change_log(rt, threads, files, request, material, &mut out),
-    };
+    let changed = change_guarded(rt, threads, files, request, material, &mut out);
+    end(rt, request, &taken, changed, &mut out)
+}
+
+// Tells what was taken out of the files once the change is done, or gives it back.
+fn end(
+    rt: &HostRuntime,
+    request: &Request<'_>,
+    taken: &[Taken],
+    changed: Result<Status>,
+    out: &mut Output,
+) -> Result<Status> {
     match changed {
         Ok(status) => {
             // The plan was told before, so that a note that can't be printed hides nothing.
-            let _ = note_taken(rt, request, &taken);
+            let _ = note_taken(rt, request, taken);
             out.print()?;
             Ok(status)
         }
         Err(error) => {
-            give_back(rt, request, &taken)?;
+            give_back(rt, request, taken)?;
             Err(error)
         }
+    }
+}
+
+fn change_guarded<R: Threads + Sync, F: FileSystem + ChangedFiles + Drop>(
+    rt: &HostRuntime,
+    threads: &R,
+    mut files: F,
+    request: &Request<'_>,
+    material: &mut Material<'_>,
+    out: &mut Output,
+) -> Result<Status> {
+    make_ahead(rt, &mut files, &request.options)?;
+    match &request.verb {
+        Verb::Purge(which) => purge(rt, threads, files, *which, &request.options, out),
+        _ => change_log(rt, threads, files, request, material, out),
     }
 }
 
@@ -142,20 +162,24 @@ fn change_log<R: Threads + Sync, F: FileSystem + ChangedFiles + Drop>(
     out: &mut Output,
 ) -> Result<Status> {
     let mut engine = open(rt, threads, files, &request.options)?;
-    match work_on(rt, &mut engine, request, material, out) {
-        Ok(status) => {
-            if request.sync {
-                close(rt, engine, request.options.json)?;
-            } else {
-                engine.give_up();
-            }
-            Ok(status)
-        }
-        Err(error) => {
-            engine.give_up().tell_refusal(rt, request.options.json)?;
-            Err(error)
-        }
+    let done = work_on(rt, &mut engine, request, material, out);
+    end_log(rt, engine, request, done)
+}
+
+fn end_log<F: FileSystem + ChangedFiles + Drop>(
+    rt: &HostRuntime,
+    engine: Engine<F>,
+    request: &Request<'_>,
+    done: Result<Status>,
+) -> Result<Status> {
+    if done.is_err() {
+        engine.give_up().tell_refusal(rt, request.options.json)?;
+    } else if request.sync {
+        close(rt, engine, request.options.json)?;
+    } else {
+        engine.give_up();
     }
+    done
 }
 
 // Writes the material, or does what the request says.
@@ -168,7 +192,7 @@ fn work_on<F: FileSystem>(
 ) -> Result<Status> {
     match material {
         Material::Lines(lines) => lines.write(rt, engine, request, out),
-        Material::Tables(tables) => tables.write(rt, engine, request),
+        Material::Tables(tables) => tables.write(rt, engine, request, out),
         Material::Request => {
             carry_out(rt, engine, request, out)?;
             Ok(Status::Done)
@@ -183,34 +207,12 @@ fn carry_out<F: FileSystem>(
     out: &mut Output,
 ) -> Result<()> {
     match &request.verb {
-        Verb::Put(group, key, value) => put(rt, engine, *group, (*key, *value), request),
-        Verb::Lines(group, path) => put_lines(rt, engine, *group, path, request),
-        Verb::EntryLines(group, path) => {
-            let runs = read_entry_file(rt, path, *group, request)?;
-            append(
-                rt.alloc(),
-                engine,
-                &runs,
-                group.is_none(),
-                request.sync,
-                out,
-            )
-        }
-        Verb::Delete(group, key) => delete(rt, engine, *group, key, request),
-        Verb::Append(group, words, lines, at) => {
-            let mut runs = runs_of(rt, *group, words, *at, request)?;
-            if let Some(path) = *lines {
-                read_value_file(rt, path, *group, request, &mut runs)?;
-            }
-            append(
-                rt.alloc(),
-                engine,
-                &runs,
-                group.is_none(),
-                request.sync,
-                out,
-            )
-        }
+        Verb::Put(_, _, _)
+        | Verb::Lines(_, _)
+        | Verb::Delete(_, _)
+        | Verb::Clean(_)
+        | Verb::Load(_) => change_keys(rt, engine, request),
+        Verb::EntryLines(_, _) | Verb::Append(_, _, _, _) => append_all(rt, engine, request, out),
         Verb::Compact(group, index) => {
             compact(engine, *group, *index, request.sync, out)?;
             note_emptied(rt, engine, *group, *index, &request.options)
@@ -218,8 +220,6 @@ fn carry_out<F: FileSystem>(
         Verb::Truncate(group, index) => {
             truncate(rt.alloc(), engine, *group, *index, request.sync, out)
         }
-        Verb::Clean(group) => clean(rt, engine, *group, request.sync),
-        Verb::Load(numbers) => load(rt, engine, *numbers, &request.options),
         // Done elsewhere.
         Verb::Repair
         | Verb::Purge(_)
@@ -229,6 +229,51 @@ fn carry_out<F: FileSystem>(
         | Verb::Import(_)
         | Verb::Salvage(_)
         | Verb::Watch(_) => Ok(()),
+    }
+}
+
+fn change_keys<F: FileSystem>(
+    rt: &HostRuntime,
+    engine: &mut Engine<F>,
+    request: &Request<'_>,
+) -> Result<()> {
+    match &request.verb {
+        Verb::Put(group, key, value) => put(rt, engine, *group, (*key, *value), request),
+        Verb::Lines(group, path) => put_lines(rt, engine, *group, path, request),
+        Verb::Delete(group, key) => delete(rt, engine, *group, key, request),
+        Verb::Clean(group) => clean(rt, engine, *group, request.sync),
+        Verb::Load(numbers) => load(rt, engine, *numbers, &request.options),
+        _ => Ok(()),
+    }
+}
+
+// Appends the entries of the words and of files.
+fn append_all<F: FileSystem>(
+    rt: &HostRuntime,
+    engine: &mut Engine<F>,
+    request: &Request<'_>,
+    out: &mut Output,
+) -> Result<()> {
+    let runs = all_runs(rt, request)?;
+    let tells_group = match &request.verb {
+        Verb::EntryLines(group, _) => group.is_none(),
+        Verb::Append(group, _, _, _) => group.is_none(),
+        _ => false,
+    };
+    append(rt.alloc(), engine, &runs, tells_group, request.sync, out)
+}
+
+fn all_runs(rt: &HostRuntime, request: &Request<'_>) -> Result<Vec<Run>> {
+    match &request.verb {
+        Verb::EntryLines(group, path) => read_entry_file(rt, path, *group, request),
+        Verb::Append(group, words, lines, at) => {
+            let runs = runs_of(rt, *group, words, *at, request)?;
+            match *lines {
+                Some(path) => with_value_file(rt, path, *group, request, runs),
+                None => Ok(runs),
+            }
+        }
+        _ => Ok(Vec::new(rt.alloc())),
     }
 }
 
@@ -267,22 +312,25 @@ fn runs_of(
     first: Option<u64>,
     request: &Request<'_>,
 ) -> Result<Vec<Run>> {
-    let mut runs = Vec::new(rt.alloc());
-    let Some(group) = group else {
-        return Ok(runs);
-    };
+    match group {
+        Some(group) if !words.is_empty() || first.is_some() => {
+            let run = Run {
+                group,
+                first,
+                values: values_of(rt, words, request.options.hex)?,
+            };
+            Ok(vec![in rt.alloc(); run]?)
+        }
+        _ => Ok(Vec::new(rt.alloc())),
+    }
+}
+
+fn values_of(rt: &HostRuntime, words: &[&str], hex: bool) -> Result<Vec<Vec<u8>>> {
     let mut values = Vec::new(rt.alloc());
     for word in words {
-        values.push(bytes_of(rt, word, request.options.hex)?)?;
+        values.push(bytes_of(rt, word, hex)?)?;
     }
-    if !values.is_empty() || first.is_some() {
-        runs.push(Run {
-            group,
-            first,
-            values,
-        })?;
-    }
-    Ok(runs)
+    Ok(values)
 }
 
 fn clean<F: FileSystem>(

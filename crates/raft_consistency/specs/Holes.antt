@@ -16,12 +16,13 @@ use Rattle.raft_consistency.specs.declared.checker.GroupEntries.{GroupEntries}
 abbrev pub IndexRange : Type 0
 IndexRange = ℕ × ℕ
 
+-- the range of these two indexes, or none if one is missing
 abbrev pub range_of : Option ℕ → Option ℕ → List IndexRange
 range_of None last = []
 range_of (Some first) None = []
 range_of (Some first) (Some last) = (first, last) ∷ []
 
--- none where a content has no entries
+-- the range of a content's entries, or none if it has no entries
 abbrev pub range_by : Content → List IndexRange
 range_by (Entries es) = range_of (first_index_of es) (last_index_of es)
 range_by Clean = []
@@ -29,14 +30,15 @@ range_by (Compact index) = []
 range_by (Put key value) = []
 range_by (Delete key) = []
 
+-- the range of an item's entries, if the item is of this group
 abbrev pub ranges_by : ℕ → Item → List IndexRange
 ranges_by group item = if group == item.group then range_by item.content else []
 
--- those of a group's items, in order
+-- the ranges of a group's items, in order
 abbrev pub ranges_of : ℕ → List Item → List IndexRange
 ranges_of group items = flat_map (ranges_by group) items
 
--- a range that starts here leaves a hole behind the last index
+-- a range that starts here leaves a hole after the last index
 abbrev pub hole_before : ℕ → ℕ → Option ℕ
 hole_before last first = if nat_lt (last + 1) first then Some last else None
 
@@ -45,20 +47,21 @@ abbrev pub hole_after : ℕ → List IndexRange → Option ℕ
 hole_after last [] = None
 hole_after last (r ∷ rs) = option_or (hole_before last r.0) (hole_after r.1 rs)
 
+-- the last index before the first hole between these ranges
 abbrev pub first_hole : List IndexRange → Option ℕ
 first_hole [] = None
 first_hole (r ∷ rs) = hole_after r.1 rs
 
--- of each group the last index before the first hole in its entries, if there is one
+-- for each group the last index before the first hole in its entries
 abbrev pub holes_in : List Batch → ℕ → Option ℕ
 holes_in batches group = first_hole (ranges_of group (items_of batches))
 
--- the last index of the ranges, or this one where there are none
+-- the last index of the ranges, or this one if there are none
 abbrev pub last_after : ℕ → List IndexRange → ℕ
 last_after last [] = last
 last_after last (r ∷ rs) = last_after r.1 rs
 
--- what is kept of a group whose entries have these ranges
+-- what a checker keeps of a group whose entries have these ranges
 abbrev pub kept_of : List IndexRange → Option GroupEntries
 kept_of [] = None
 kept_of (r ∷ rs) = Some (record {
@@ -67,7 +70,7 @@ kept_of (r ∷ rs) = Some (record {
   hole = hole_after r.1 rs;
 })
 
--- .. of older ranges and then of newer ones
+-- what a checker keeps of older ranges followed by newer ones
 abbrev pub kept_then : Option GroupEntries → Option GroupEntries → Option GroupEntries
 kept_then older None = older
 kept_then None (Some n) = Some n
@@ -81,6 +84,7 @@ kept_then (Some o) (Some n) = Some (record {
 abbrev pub kept_in : ConsistencyChecker → ℕ → Option GroupEntries
 kept_in checker group = hash.get nat_eq checker.groups group
 
+-- the hole that a checker found in a group
 abbrev pub hole_in : ConsistencyChecker → ℕ → Option ℕ
 hole_in checker group = option_and_then (λ kept. kept.hole) (kept_in checker group)
 
@@ -89,7 +93,7 @@ abbrev pub HasTaken : List Batch → ConsistencyChecker → Type 0
 HasTaken batches checker =
     (group : ℕ) → kept_in checker group ≡ kept_of (ranges_of group (items_of batches))
 
--- the pairs, each group once and in order, are the groups that have a hole, with its place
+-- the pairs are the groups with holes and their places, each group once and in order
 pub record AreHoles (holes : ℕ → Option ℕ) (pairs : List (ℕ × ℕ)) : Type 0 where
   pub ascending : IsStrictlySortedBy nat_cmp (keys_of pairs)
   pub value : (group : ℕ) → lookup (nat_eq group) pairs ≡ holes group

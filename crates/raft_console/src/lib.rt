@@ -12,7 +12,7 @@ mod telling;
 
 use anyhow::anyhow;
 pub use input::{bytes_of, file_or_input};
-pub use limits::tell_file_limit;
+pub use limits::check_file_limit;
 pub use line_input::{
     EntryLine, GroupValue, LineForm, Pair, Spelling, member, read_entry_lines, read_lines,
     read_object, read_values,

@@ -1,7 +1,8 @@
 //! Items that are written to a log in batches, whatever stands there already.
 
 use anyhow::Result;
-use raft_console::{failure, or_failure};
+use raft_command_line::{Request, Verb};
+use raft_console::{failure, or_failure, tell};
 use raft_env::FileSystem;
 use raft_log_engine::{Engine, LogBatch};
 use raft_once::{NUMBER_KEY, kept_number};
@@ -30,6 +31,8 @@ pub struct Filling {
     /// The numbers of groups, which keep them for writes that act once.
     numbers: BTreeMap<u64, u64>,
     pub items: u64,
+    /// How many of them the log has accepted.
+    written: u64,
 }
 
 // One call in a proof that drops it; derived, it would be one of each field (docs/DECISIONS.md).
@@ -45,6 +48,7 @@ impl Drop for Filling {
             values: _values,
             numbers: _numbers,
             items: _,
+            written: _,
         } = self;
     }
 }
@@ -61,7 +65,21 @@ impl Filling {
             values: Vec::new(alloc),
             numbers: BTreeMap::new(alloc),
             items: 0,
+            written: 0,
         }
+    }
+
+    /// Says how many items the log has of an import that failed.
+    pub fn tell_written(&self, rt: &HostRuntime, request: &Request<'_>) -> Result<()> {
+        if !matches!(&request.verb, Verb::Import(_)) {
+            return Ok(());
+        }
+        let text = format!(in rt.alloc();
+            "the import failed after {} items, which the log has: the same import with \
+            `--replace` begins again",
+            self.written
+        )?;
+        tell(rt, request.options.json, "error", text.as_str())
     }
 
     /// Adds a key's value. That of a group's number is kept for the end.
@@ -202,6 +220,7 @@ impl Filling {
             return Err(failure("the batch cannot be written", &fault));
         }
         self.bytes = 0;
+        self.written = self.items;
         self.spans.clear();
         Ok(())
     }

@@ -3,6 +3,7 @@
 use crate::filling::Filling;
 use crate::line_items::{Content, LineItem, Place, add_mark};
 use crate::line_source::LineSource;
+use crate::replacing::{Replacing, has_entries};
 use anyhow::{Result, anyhow};
 use raft_command_line::{Import, Options, Request};
 use raft_console::{Output, Progress, Status, note_made, or_failure};
@@ -11,6 +12,7 @@ use raft_inspect::{Filter, ItemKind, Word};
 use raft_log_engine::Engine;
 use raft_records::Fault;
 use raft_whole_records::Marks;
+use std::alloc::AllocError;
 
 /// After how many lines it is told how many were checked, if a second went by.
 const COUNTED: u64 = 1024;
@@ -74,7 +76,7 @@ impl LineImport {
 
     /// Writes the batches of the lines, one for each record, in their order, and prints how many
     /// items they have. If a line says that a file could not be read further, that is told, and the
-    /// status is 4.
+    /// status is 4. If entries would be replaced that may not be, nothing is written.
     pub fn write<F: FileSystem>(
         &mut self,
         rt: &HostRuntime,
@@ -82,28 +84,116 @@ impl LineImport {
         request: &Request<'_>,
         out: &mut Output,
     ) -> Result<Status> {
+        if !self.find_replaced(rt, engine)?.judge(rt, request, out)? {
+            return Ok(Status::Refused);
+        }
         let mut filling = Filling::new(rt.alloc());
+        match self.write_all(rt, engine, request, &mut filling) {
+            Ok(unread) => {
+                out.named(&[("imported", Word::Number(filling.items))])?;
+                Ok(if unread > 0 {
+                    Status::WouldCut
+                } else {
+                    Status::Done
+                })
+            }
+            Err(error) => {
+                filling.tell_written(rt, request)?;
+                Err(error)
+            }
+        }
+    }
+
+    // Which entries of the log the lines replace. A log without entries needs no look at them.
+    fn find_replaced<F: FileSystem>(
+        &self,
+        rt: &HostRuntime,
+        engine: &Engine<F>,
+    ) -> Result<Replacing> {
+        let mut replacing = Replacing::new(rt.alloc());
+        if !or_failure(has_entries(engine), "the log cannot be read")? {
+            return Ok(replacing);
+        }
+        let mut state = Reading::BEGIN;
+        let mut items = self.lines.items(rt)?;
+        for _ in 0..self.count {
+            let Some(item) = items.next()? else {
+                break;
+            };
+            state.move_to(&item, &self.marks);
+            if state.takes(&item, self.filter) {
+                note_change(engine, &item, &mut replacing)?;
+            }
+        }
+        Ok(replacing)
+    }
+
+    // Returns how many lines say that a file could not be read on.
+    fn write_all<F: FileSystem>(
+        &self,
+        rt: &HostRuntime,
+        engine: &mut Engine<F>,
+        request: &Request<'_>,
+        filling: &mut Filling,
+    ) -> Result<u64> {
         let mut progress = Progress::of(*rt, &request.options)?;
-        let mut state = Reading {
-            place: None,
-            is_left_out: false,
-            unread: 0,
-        };
+        let mut state = Reading::BEGIN;
+        let mut unread = 0u64;
         let mut items = self.lines.items(rt)?;
         for place in 0..self.count {
             let Some(item) = items.next()? else {
                 return Err(anyhow!("the lines changed while they were imported"));
             };
             progress.at("items imported", place, self.count)?;
-            self.add(rt, engine, item, request, &mut state, &mut filling)?;
+            if let Content::Unread(why) = &item.content {
+                unread = unread.saturating_add(1);
+                note_unread(rt, request, why.as_str())?;
+            }
+            self.add(engine, item, &mut state, filling)?;
         }
         filling.finish(engine, request.sync)?;
-        out.named(&[("imported", Word::Number(filling.items))])?;
-        if state.unread > 0 {
-            return Ok(Status::WouldCut);
-        }
-        Ok(Status::Done)
+        Ok(unread)
     }
+
+    fn add<F: FileSystem>(
+        &self,
+        engine: &mut Engine<F>,
+        item: LineItem,
+        state: &mut Reading,
+        filling: &mut Filling,
+    ) -> Result<()> {
+        if state.move_to(&item, &self.marks) {
+            filling.write(engine)?;
+        } else if state.place.is_none() {
+            filling.write_if_full(engine)?;
+        }
+        if !state.takes(&item, self.filter) {
+            return Ok(());
+        }
+        or_failure(fill(engine, item, filling), "an item cannot be imported")
+    }
+}
+
+fn note_unread(rt: &HostRuntime, request: &Request<'_>, why: &str) -> Result<()> {
+    let text = format!(in rt.alloc();
+        "the dump ends before the end of a file: {why}; `salvage` reads on behind it"
+    );
+    note_made(rt, &request.options, text)
+}
+
+fn note_change<F: FileSystem>(
+    engine: &Engine<F>,
+    item: &LineItem,
+    replacing: &mut Replacing,
+) -> Result<(), AllocError> {
+    let group = item.group;
+    match &item.content {
+        Content::Entry(index, _) => replacing.held(engine, group)?.add(*index, *index),
+        Content::Compact(index) => replacing.held(engine, group)?.compact(*index),
+        Content::Clean => replacing.held(engine, group)?.clean(),
+        _ => {}
+    }
+    Ok(())
 }
 
 /// Which items an import writes.
@@ -117,49 +207,41 @@ pub fn filter_of(import: Import<'_>) -> Filter {
 }
 
 /// Where the lines are read.
-#[derive(Drop)]
+#[derive(Clone, Copy)]
 struct Reading {
     /// The record of the last line.
     place: Option<Place>,
     /// Whether the batch of the last line doesn't count.
     is_left_out: bool,
-    /// How many lines say that a file could not be read on.
-    unread: u64,
 }
 
-impl LineImport {
-    fn add<F: FileSystem>(
-        &self,
-        rt: &HostRuntime,
-        engine: &mut Engine<F>,
-        item: LineItem,
-        request: &Request<'_>,
-        state: &mut Reading,
-        filling: &mut Filling,
-    ) -> Result<()> {
-        if item.place != state.place {
-            filling.write(engine)?;
-            state.place = item.place;
-            state.is_left_out = false;
-        } else if state.place.is_none() {
-            filling.write_if_full(engine)?;
+impl Reading {
+    /// Before the first line.
+    const BEGIN: Reading = Reading {
+        place: None,
+        is_left_out: false,
+    };
+
+    // Goes on to the next item, and returns whether it is of another record.
+    fn move_to(&mut self, item: &LineItem, marks: &Marks) -> bool {
+        let is_another = item.place != self.place;
+        if is_another {
+            self.place = item.place;
+            self.is_left_out = false;
         }
         if let Content::Mark(_) = &item.content {
             let is_rewrite = item.place.is_some_and(|place| place.is_rewrite);
-            state.is_left_out = is_rewrite && !self.marks.counts(item.group);
-            return Ok(());
+            self.is_left_out = is_rewrite && !marks.counts(item.group);
         }
-        if let Content::Unread(why) = &item.content {
-            state.unread = state.unread.saturating_add(1);
-            let text = format!(in rt.alloc();
-                "the dump ends before the end of a file: {why}; `salvage` reads on behind it"
-            );
-            return note_made(rt, &request.options, text);
+        is_another
+    }
+
+    // Whether the item it went on to is written.
+    fn takes(&self, item: &LineItem, filter: Filter) -> bool {
+        match &item.content {
+            Content::Mark(_) | Content::Unread(_) => false,
+            _ => !self.is_left_out && item.is_taken(filter),
         }
-        if state.is_left_out || !item.is_taken(self.filter) {
-            return Ok(());
-        }
-        or_failure(fill(engine, item, filling), "an item cannot be imported")
     }
 }
 

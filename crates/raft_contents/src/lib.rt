@@ -7,6 +7,7 @@ mod import;
 mod line_items;
 mod line_source;
 mod material;
+mod replacing;
 mod summing;
 mod tables;
 mod truncating;

@@ -1,9 +1,10 @@
 //! Groups that were read from files are written to a log.
 
 use crate::filling::Filling;
+use crate::replacing::Replacing;
 use anyhow::Result;
 use raft_command_line::Request;
-use raft_console::{Progress, Status, or_failure};
+use raft_console::{Output, Progress, Status, or_failure};
 use raft_env::FileSystem;
 use raft_gathering::{Group, Tables};
 use raft_inspect::{Filter, ItemKind};
@@ -19,24 +20,63 @@ pub struct TableImport<'a> {
 }
 
 impl TableImport<'_> {
-    /// Writes of each group the entries behind its last gap, and its keys.
+    /// Writes of each group the entries behind its last gap, and its keys. If entries would be
+    /// replaced that may not be, nothing is written.
     pub fn write<F: FileSystem>(
         &self,
         rt: &HostRuntime,
         engine: &mut Engine<F>,
         request: &Request<'_>,
+        out: &mut Output,
     ) -> Result<Status> {
-        let mut progress = Progress::of(*rt, &request.options)?;
+        if !self.find_replaced(rt, engine)?.judge(rt, request, out)? {
+            return Ok(Status::Refused);
+        }
         let mut filling = Filling::new(rt.alloc());
+        match self.write_all(rt, engine, request, &mut filling) {
+            Ok(()) => Ok(self.status),
+            Err(error) => {
+                filling.tell_written(rt, request)?;
+                Err(error)
+            }
+        }
+    }
+
+    // Which entries of the log those of the groups replace.
+    fn find_replaced<F: FileSystem>(
+        &self,
+        rt: &HostRuntime,
+        engine: &Engine<F>,
+    ) -> Result<Replacing> {
+        let mut replacing = Replacing::new(rt.alloc());
+        for (number, group) in self.tables.groups.iter() {
+            if !self.filter.takes(*number, ItemKind::Entry, None) {
+                continue;
+            }
+            if let Some(run) = group.runs.last() {
+                let last = run.end().saturating_sub(1);
+                replacing.held(engine, *number)?.add(run.first, last);
+            }
+        }
+        Ok(replacing)
+    }
+
+    fn write_all<F: FileSystem>(
+        &self,
+        rt: &HostRuntime,
+        engine: &mut Engine<F>,
+        request: &Request<'_>,
+        filling: &mut Filling,
+    ) -> Result<()> {
+        let mut progress = Progress::of(*rt, &request.options)?;
         let whole = self.tables.groups.len() as u64;
         let mut done = 0u64;
         for (number, group) in self.tables.groups.iter() {
             progress.at("groups written", done, whole)?;
             done = done.saturating_add(1);
-            write_group(rt, engine, *number, group, self.filter, &mut filling)?;
+            write_group(rt, engine, *number, group, self.filter, filling)?;
         }
-        filling.finish(engine, request.sync)?;
-        Ok(self.status)
+        filling.finish(engine, request.sync)
     }
 }
 

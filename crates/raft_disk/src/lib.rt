@@ -1,10 +1,13 @@
 //! Files in a folder of the operating system, with an image of them in memory for reads.
 #![tactic(auto)]
 
+mod changes;
+mod counts;
 mod disk;
 mod folder;
 mod image;
 pub mod laws;
+mod lost;
 mod mirror;
 mod names;
 mod opening;
@@ -15,6 +18,7 @@ mod spans;
 mod told;
 mod view;
 
+pub use counts::{DiskCounts, TIMES};
 pub use disk::Disk;
 pub use folder::{Folder, FolderFile};
 pub use image::Image;

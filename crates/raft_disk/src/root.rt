@@ -45,7 +45,7 @@ impl Root {
         join(alloc, self.path.as_str(), path)
     }
 
-    /// Locks the folder itself, where the system locks folders: false if another process has its lock.
+    /// Locks the folder itself, if the system locks folders. False if another process has the lock.
     pub(crate) fn try_lock(&self) -> bool {
         !matches!(self.folder.try_lock(), Err(TryLockError::WouldBlock))
     }

@@ -7,7 +7,7 @@
 
 use crate::places::sync_folder;
 use crate::root::Root;
-use crate::spans::{SLOT_LEN, SPANS, Span, SpanReports, Spans, is_note, latest};
+use crate::spans::{MAX_SPILL_LEN, SLOT_LEN, SPANS, Span, SpanReports, Spans, is_note, latest};
 use raft_base::LogQueue;
 use std::alloc::Global;
 use std::fs::{self, File, OpenOptions};
@@ -27,7 +27,7 @@ pub(crate) struct SpanFile {
     synced: u64,
     /// Whether the folder knows more than the note.
     is_behind: bool,
-    /// What the note told at the opening; none if there was no note.
+    /// What the note said at the opening; none if there was no note.
     reports: Option<SpanReports>,
 }
 
@@ -82,10 +82,12 @@ impl SpanFile {
         Ok(())
     }
 
-    /// Notes the second folder that the log's settings name.
+    /// Notes the second folder that the log's settings name. If a note has no room for its path,
+    /// none is written.
     pub(crate) fn see_spill(&mut self, alloc: Global, spill: Option<&str>) -> io::Result<()> {
         if let Some(spill) = spill {
             self.spans.spill = String::from_str(alloc, spill)?;
+            self.is_silent = self.is_silent || spill.len() > MAX_SPILL_LEN;
         }
         Ok(())
     }
@@ -141,9 +143,42 @@ impl SpanFile {
         Ok(numbers)
     }
 
-    /// What the note told at the opening; none if there was no note.
+    /// What the note said at the opening; none if there was no note.
     pub(crate) fn reports(&self) -> Option<&SpanReports> {
         self.reports.as_ref()
+    }
+
+    /// Notes and syncs that a file will be made, if it hides that one was missing at the opening. If
+    /// that is refused, the note before stays.
+    pub(crate) fn replace(&mut self, rt: &HostRuntime, root: &Root, path: &str) {
+        let Some((queue, number)) = self.spans.number_at(path) else {
+            return;
+        };
+        let hides = match &self.reports {
+            Some(reports) => reports.of(queue).hides(number),
+            None => false,
+        };
+        if hides && self.lose(queue) {
+            let _ = self.write(rt, root, true);
+        }
+    }
+
+    // Notes that a missing file can't be put back; returns whether that is new.
+    fn lose(&mut self, queue: LogQueue) -> bool {
+        let span = self.spans.span(queue);
+        let is_new = !span.has_lost;
+        span.has_lost = true;
+        is_new
+    }
+
+    // The same if files are gone that follow on a missing one.
+    fn lose_passed(&mut self, queue: LogQueue) -> bool {
+        let first = self.spans.span(queue).first;
+        let is_passed = match &self.reports {
+            Some(reports) => reports.of(queue).is_missing_before(first),
+            None => false,
+        };
+        is_passed && self.lose(queue)
     }
 
     /// Notes and syncs that a file was made. If that is refused, the note before stays, which is
@@ -167,6 +202,7 @@ impl SpanFile {
         if !self.spans.span(queue).leave(number) {
             return Ok(());
         }
+        self.lose_passed(queue);
         self.end_dropping();
         self.write_or_remove(rt, root)
     }
@@ -176,7 +212,8 @@ impl SpanFile {
         let Some((queue, number)) = self.spans.number_at(path) else {
             return Ok(());
         };
-        if self.spans.span(queue).delete(number) {
+        let is_due = self.spans.span(queue).delete(number);
+        if self.lose_passed(queue) || is_due {
             self.write_or_remove(rt, root)?;
         }
         self.is_behind = true;
@@ -246,7 +283,8 @@ fn make_note(rt: &HostRuntime, root: &Root) -> io::Result<File> {
     let mut options = OpenOptions::new();
     options.read(true).write(true).create_new(true);
     let file = options.open(rt, place.as_str())?;
-    file.set_len(2 * SLOT_LEN as u64)?;
+    // A shorter file has notes too.
+    let _ = file.set_len(2 * SLOT_LEN as u64);
     Ok(file)
 }
 

@@ -21,6 +21,9 @@ const BODY_LEN: usize = SLOT_LEN - CHECKSUM_LEN;
 /// The text, the count, the four numbers, the flags and the length of the second folder's path.
 const HEAD_LEN: usize = 72;
 
+/// How long a second folder's path may be in a note.
+pub(crate) const MAX_SPILL_LEN: usize = BODY_LEN - HEAD_LEN;
+
 const NUMBER_LEN: usize = 16;
 
 /// Which numbers the files of a queue have had.
@@ -32,6 +35,8 @@ pub struct Span {
     pub last: u64,
     /// A purge was deleting files, the least first, so that the first ones may be missing.
     pub is_dropping: bool,
+    /// A needed file was missing at an opening. After it a new file got its number, or a purge passed it.
+    pub has_lost: bool,
 }
 
 /// The spans of both queues.
@@ -61,7 +66,10 @@ pub struct SpanReport {
     pub strays: Vec<u64>,
     /// The numbers of files that a purge or a close left. Nothing needs them.
     pub left_over: Vec<u64>,
-    /// Another program wrote to the queue after the note. Then the lists are empty.
+    /// Files were missing at an earlier opening, and can't be put back. It holds until the loss is
+    /// accepted.
+    pub has_lost: bool,
+    /// Another program wrote to the queue after the note. Then nothing else is reported.
     pub is_stale: bool,
 }
 
@@ -73,9 +81,16 @@ pub struct SpanReports {
 }
 
 impl SpanReports {
-    /// Whether a file is missing, or one does not belong to its queue.
+    /// Whether a file is missing or was, or one does not belong to its queue.
     pub fn has_losses(&self) -> bool {
         self.append.has_losses() || self.rewrite.has_losses()
+    }
+
+    pub(crate) fn of(&self, queue: LogQueue) -> &SpanReport {
+        match queue {
+            LogQueue::Append => &self.append,
+            LogQueue::Rewrite => &self.rewrite,
+        }
     }
 }
 
@@ -85,13 +100,24 @@ impl SpanReport {
             missing: Vec::new(alloc),
             strays: Vec::new(alloc),
             left_over: Vec::new(alloc),
+            has_lost: false,
             is_stale: false,
         }
     }
 
-    /// Whether a file is missing, or one does not belong to its queue.
+    /// Whether a file is missing or was, or one does not belong to its queue.
     pub fn has_losses(&self) -> bool {
-        !self.missing.is_empty() || !self.strays.is_empty()
+        self.has_lost || !self.missing.is_empty() || !self.strays.is_empty()
+    }
+
+    // Whether a file that gets this number hides that one is missing.
+    pub(crate) fn hides(&self, number: u64) -> bool {
+        self.missing.iter().any(|range| number <= range.1)
+    }
+
+    // Whether a file is missing of a number before this one.
+    pub(crate) fn is_missing_before(&self, number: u64) -> bool {
+        self.missing.iter().any(|range| range.0 < number)
     }
 }
 
@@ -100,6 +126,7 @@ impl Span {
         first: 1,
         last: 0,
         is_dropping: false,
+        has_lost: false,
     };
 
     /// The span of the files that an opening reads: those after the last missing number. The
@@ -123,6 +150,7 @@ impl Span {
             report.is_stale = true;
             return Ok(report);
         }
+        report.has_lost = self.has_lost;
         let mut next = self.front(numbers);
         for &number in numbers {
             if number < self.first {
@@ -191,15 +219,24 @@ impl Span {
             first: self.front(numbers),
             last: end,
             is_dropping: false,
+            has_lost: self.has_lost,
         })
     }
 
-    /// Notes that a file was made; returns whether that changed the span. A number that does not
-    /// follow changes nothing, so that the files that do not follow are still reported.
+    /// Notes that a file was made; returns whether that changed the span. A later number that does
+    /// not follow changes nothing, so that the files that do not follow are still reported. An
+    /// earlier one comes if all files are gone and the log begins again.
     pub(crate) fn add(&mut self, number: u64) -> bool {
         if self.last == 0 {
             self.first = number;
-        } else if number != self.last.saturating_add(1) {
+            self.last = number;
+            return true;
+        }
+        if number < self.first {
+            self.first = number;
+            return true;
+        }
+        if number != self.last.saturating_add(1) {
             return false;
         }
         self.last = number;
@@ -213,7 +250,10 @@ impl Span {
             return false;
         }
         if self.first == self.last {
-            *self = Span::EMPTY;
+            *self = Span {
+                has_lost: self.has_lost,
+                ..Span::EMPTY
+            };
         } else if number == self.last {
             self.last = number.saturating_sub(1);
         } else {
@@ -263,8 +303,11 @@ impl Spans {
     pub(crate) fn slot(&self, alloc: Global, count: u64) -> io::Result<Vec<u8>> {
         let mut slot = Vec::with_capacity(alloc, SLOT_LEN)?;
         slot.extend_from_slice(MAGIC)?;
-        let flags = u64::from(self.append.is_dropping) | u64::from(self.rewrite.is_dropping) << 1;
-        let spill = if self.spill.len() > BODY_LEN - HEAD_LEN {
+        let flags = u64::from(self.append.is_dropping)
+            | u64::from(self.rewrite.is_dropping) << 1
+            | u64::from(self.append.has_lost) << 2
+            | u64::from(self.rewrite.has_lost) << 3;
+        let spill = if self.spill.len() > MAX_SPILL_LEN {
             ""
         } else {
             self.spill.as_str()
@@ -361,10 +404,12 @@ fn parts_of(slot: &[u8]) -> Option<(u64, Span, Span, &str)> {
     let spill = str::from_utf8(body.get(..usize::try_from(len).ok()?)?).ok()?;
     let append = Span {
         is_dropping: flags & 1 != 0,
+        has_lost: flags & 4 != 0,
         ..append
     };
     let rewrite = Span {
         is_dropping: flags & 2 != 0,
+        has_lost: flags & 8 != 0,
         ..rewrite
     };
     Some((count, append, rewrite, spill))
@@ -377,6 +422,7 @@ fn take_span(bytes: &[u8]) -> Option<(Span, &[u8])> {
         first,
         last,
         is_dropping: false,
+        has_lost: false,
     };
     Some((span, bytes))
 }

@@ -179,7 +179,7 @@ fn find_note(rt: &HostRuntime, place: &str) -> io::Result<Option<SpanNote>> {
     Ok(latest(rt.alloc(), &bytes)?.map(|(_, note)| note))
 }
 
-// Takes the lock with others that look, if it can. A system without locks tells of no writer.
+// Takes the lock with others that look, if it can. A system without locks reports no writer.
 fn is_held(lock: &File) -> bool {
     matches!(lock.try_lock_shared(), Err(TryLockError::WouldBlock))
 }

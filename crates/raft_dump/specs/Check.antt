@@ -17,7 +17,7 @@ use Rattle.raft_dump.specs.declared.plan.Planned.{Planned}
 use Rattle.raft_dump.specs.Stale.{HasStaleRecord, headed_lens, stale_len, stale_sum}
 use Rattle.raft_dump.specs.declared.plan.Planned.TheVariants.{Keep, Cut, Fail}
 
--- a reading that begins behind the header
+-- a reading that begins after the header
 pub record IsBegunAt (id : FileId) (r : RecordCursor) : Type 0 where
   pub rest : List ℕ
   pub header : header_of r.bytes ≡ Some (r.format, rest)
@@ -33,19 +33,18 @@ abbrev pub records_read : RecordCursor → List PlacedRecord
 records_read r =
     take_while (λ p. is_none (record_refusal (signature_of r) (drop p.at r.bytes))) (records_left r)
 
--- a reading that begins there: how many records are read, where they end, and why it stops
+-- a reading from there: how many records are read, where they end, and why it stops
 pub record IsReadFrom (r : RecordCursor) (c : FileCheck) : Type 0 where
   pub records : c.records ≡ length (records_read r)
   pub end : c.end ≡ end_of_records r.at (records_read r)
   pub stop : EndsReading (record r { at = c.end }) c.stop
 
--- nothing is read of a file without a header
+-- what is read of a file with this header; without a header nothing is
 abbrev pub IsReadIn : FileId → List ℕ → Option (LogFileFormat × List ℕ) → FileCheck → Type 0
 IsReadIn id bytes None c = (c.records ≡ 0) × (c.end ≡ 0) × (c.stop ≡ Some fault.Corruption)
 IsReadIn id bytes (Some header) c = IsReadFrom (cursor_after_header id header.0 bytes) c
 
--- what can be read of a file of these bytes: the same as is scanned of it, unless it stops at a
--- record that is too long
+-- what can be read of a file of these bytes: as much as a scan, unless a record is too long
 pub record IsReadingOf (id : FileId) (bytes : List ℕ) (c : FileCheck) : Type 0 where
   pub id_is : c.id ≡ id
   pub len : c.len ≡ length bytes
@@ -54,15 +53,17 @@ pub record IsReadingOf (id : FileId) (bytes : List ℕ) (c : FileCheck) : Type 0
   pub end : c.stop ≢ Some fault.Range → c.end ≡ end_of_scan id bytes
   pub records : c.stop ≢ Some fault.Range → c.records ≡ length (readable_records id bytes)
 
--- .. whether the rest of it is zeros, that a record of an earlier file stands there where it is
--- called stale, and that more would have been summed than is where it is called unsearched
+-- IsReadingOf, and what is known of the rest of the file
 pub record IsCheckOf (id : FileId) (bytes : List ℕ) (c : FileCheck) : Type 0 where
   pub reading : IsReadingOf id bytes c
+  -- the rest is zeros
   pub zeros : c.zeros ≡ list_all (λ b. b == 0) (drop c.end bytes)
+  -- a record of an earlier file is in it
   pub stale : c.stale ≡ true → HasStaleRecord id (take stale_len (drop c.end bytes))
+  -- possible records in it are longer than what a search sums
   pub unsearched : c.unsearched ≡ true → stale_sum < headed_lens (take stale_len (drop c.end bytes))
 
--- a broken end is cut off where that is tolerated; a record that is compressed or too long never is
+-- a broken end is cut off if that is tolerated; a compressed or too long record never is
 abbrev pub planned_stop : Bool → ℕ → Option Fault → Planned
 planned_stop is_tolerant end None = Keep
 planned_stop is_tolerant end (Some fault.Corruption) = if is_tolerant then Cut end else Fail
@@ -74,16 +75,17 @@ plan_of mode [] = []
 plan_of mode (c ∷ checks) =
     planned_stop (tolerates_corruption mode (length checks == 0)) c.end c.stop ∷ plan_of mode checks
 
--- the number at a place is the one before it and one
+-- the number after this place is one more than the one at it
 abbrev pub RisesAt : List ℕ → ℕ → Type 0
 RisesAt numbers place = slice_index numbers (suc place) ≡ suc (slice_index numbers place)
 
--- the numbers behind so many rise by one, and those behind fewer don't
+-- the numbers rise by one from this place on, and from no earlier one
 pub record AreLastToRise (numbers : List ℕ) (passed : ℕ) : Type 0 where
   pub within : passed ≤ length numbers
   pub rise : (place : ℕ) → passed ≤ place → suc place < length numbers → RisesAt numbers place
   pub most : (place : ℕ) → passed ≡ suc place
       → (passed < length numbers) × (RisesAt numbers place → ⊥)
 
+-- the file numbers of these checks
 abbrev pub numbers_of : List FileCheck → List ℕ
 numbers_of checks = map (λ c. c.id.seq) checks

@@ -70,7 +70,7 @@ pub fn search_stale(alloc: Global, id: FileId, bytes: &[u8]) -> Result<StaleSear
     Ok(StaleSearch::NotStale)
 }
 
-// How long the record is that the bytes may begin with, or 0 where it doesn't end in them.
+// How long the record is that the bytes may begin with, or 0 if it doesn't end in them.
 fn record_len(bytes: &[u8]) -> usize
     ensures value { result ≡ headed_len bytes.now }
 {

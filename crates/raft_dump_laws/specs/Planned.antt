@@ -11,19 +11,18 @@ use Rattle.raft_dump.specs.declared.check.FileCheck.{FileCheck}
 use Rattle.raft_dump.specs.declared.plan.Planned.{Planned}
 use Rattle.raft_dump.specs.declared.plan.Planned.TheVariants.{Keep, Cut, Fail}
 
--- these tell what can be read of each of these files of a queue
+-- these checks say what can be read of each of these files of a queue
 abbrev pub AreChecksIn : LogQueue → (Path → List ℕ) → List (ℕ × Path) → List FileCheck → Type 0
 AreChecksIn queue bytes files checks =
     AllZip (λ f c. IsCheckOf (in_queue queue f.0) (bytes f.1) c) files checks
 
--- an opening that goes through reads these bytes of a file as planned: all of them, or those up to
--- where they are cut
+-- an opening that succeeds reads of these bytes what is planned: all, or those before the cut
 abbrev pub IsReadAs : FileId → List ℕ → Planned → Type 0
 IsReadAs id bytes Keep = is_read_to_end id bytes ≡ true
 IsReadAs id bytes (Cut end) = end ≡ end_of_scan id bytes
 IsReadAs id bytes Fail = ⊥
 
--- .. each of these files of a queue
+-- IsReadAs for each of these files of a queue
 abbrev pub AreReadAs : LogQueue → (Path → List ℕ) → List (ℕ × Path) → List Planned → Type 0
 AreReadAs queue bytes files plan =
     AllZip (λ f p. IsReadAs (in_queue queue f.0) (bytes f.1) p) files plan

@@ -10,7 +10,9 @@ pub mod config {
 
 /// Files: the contract of storage, files in memory that fail and crash, and a folder.
 pub mod env {
-    pub use raft_disk::{DiskFileSystem, OpenFault};
+    pub use raft_disk::{
+        DiskCounts, DiskFileSystem, OpenFault, Span, SpanNote, SpanReport, SpanReports, Spans,
+    };
     pub use raft_env::{FileSystem, FsFault, IoKind, Permission};
     pub use raft_memory::{Choice, FsCall, MemoryFileSystem};
 }
@@ -35,7 +37,8 @@ pub mod lines {
     pub use raft_lines::{Ended, serve};
 }
 
-/// What an opening would lose of the log files, found before it.
+/// What an opening would lose of the log files, found before it. Which files are missing says
+/// `DiskFileSystem::span_reports`.
 pub mod losses {
     pub use raft_inspect::{Cut, Losses, Passed, Unexplained};
 }

@@ -23,6 +23,8 @@ mod log_files;
 #[cfg(test)]
 mod losses;
 #[cfg(test)]
+mod lost_files;
+#[cfg(test)]
 mod memory_files;
 #[cfg(test)]
 mod names;

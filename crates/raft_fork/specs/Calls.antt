@@ -7,7 +7,7 @@ use Rattle.raft_env.specs.Refusal.{Refusals}
 use Rattle.raft_pipes.specs.Folder.{LeavesOthers}
 use Rattle.raft_fork.specs.Refused.{IsSourceRefusal}
 
--- on files of which these are the directory, its moments and the refusals of calls
+-- for files with this directory, these moments inside calls, and these counts of failed calls
 module _ {F : Type 0} (directory : F → Directory) (moments : F → List Directory)
     (refusals_of : F → Refusals) where
   -- the files of these folders are found: nothing is changed
@@ -20,7 +20,7 @@ module _ {F : Type 0} (directory : F → Directory) (moments : F → List Direct
     pub cause : IfErr result (IsSourceRefusal there (directory old) (refusals_of old)
         (refusals_of new))
 
-  -- the file at the path is made so; other files and the folders stay
+  -- the file at the path is changed as IsDone says; other files and the folders are unchanged
   pub record WritesOnly {T : Type 0} (path : Path) (IsDone : Directory → Directory → Type 0)
       (result : Result T Fault) (old new : F) : Type 0 where
     pub ok : OnOk result (IsDone (directory old) (directory new))

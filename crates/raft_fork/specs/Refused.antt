@@ -15,12 +15,12 @@ use Rattle.raft_pipes.specs.Folder.{IsLogPathIn}
 use Rattle.raft_pipes.specs.Numbered.{AreSingle}
 use Rattle.raft_fork.specs.Fork.{IsFree, Source, copies_in, mark_in, standing}
 
+-- the recovery mode is tolerate-any-corruption
 abbrev pub tolerates_all : RecoveryMode → Bool
 tolerates_all TolerateAnyCorruption = true
 tolerates_all _ = false
 
--- what the source's settings are refused for: files that are used again would be under two names,
--- and a mode that drops any broken part would drop it here
+-- the first reason to refuse the source's settings: recycling, the mode, or a contradiction
 abbrev pub fork_contradiction : Config → Option (List ℕ)
 fork_contradiction c =
     if c.enable_log_recycle then Some (codes "a fork needs enable-log-recycle to be off")
@@ -28,36 +28,37 @@ fork_contradiction c =
     then Some (codes "a fork needs another recovery-mode than tolerate-any-corruption")
     else contradiction c
 
+-- the settings are refused for their first reason, or memory ran out
 abbrev pub IsSettingsRefusal : Config → Fault → Type 0
 IsSettingsRefusal c (fault.InvalidArgument text) = fork_contradiction c ≡ Some text.now
 IsSettingsRefusal c fault.Memory = Unit {0}
 IsSettingsRefusal c _ = ⊥
 
--- a log file stands in the target
+-- a log file is in the target
 abbrev pub HasLogIn : Path → Directory → Type 0
 HasLogIn target n = (path : Path) × IsLogPathIn target path × HasFile n path
 
--- .. or the mark of a fork that hasn't ended
+-- the target has a log file, or the mark of a fork that hasn't ended
 abbrev pub HasForkIn : Path → Directory → Type 0
 HasForkIn target n = HasLogIn target n ⊎ HasFile n (mark_in target)
 
--- the mark stands, or memory is wanting
+-- the target has a mark, or memory ran out
 abbrev pub IsMarkRefusal : Path → Directory → Fault → Type 0
 IsMarkRefusal target n (fault.InvalidArgument text) = HasFile n (mark_in target)
 IsMarkRefusal target n fault.Memory = Unit {0}
 IsMarkRefusal target n _ = ⊥
 
--- a file stands in the target's place, or a fork in it
+-- a file has the target's path, the target has a fork, or a call on it fails
 abbrev pub IsTargetRefusal : Path → Directory → Refusals → Refusals → Fault → Type 0
 IsTargetRefusal target n old new (fault.InvalidArgument text) =
     HasFile n target ⊎ HasForkIn target n
 IsTargetRefusal target n old new e = FailsAt (NamesFile target) old new e
 
--- a folder, or a log file in it
+-- the path is this folder or a log file in it
 abbrev pub IsInFolder : Path → Path → Type 0
 IsInFolder folder path = (path ≡ folder) ⊎ IsLogPathIn folder path
 
--- .. one of several
+-- the path is one of these folders or a log file in one
 abbrev pub IsInOneOf : List Path → Path → Type 0
 IsInOneOf folders path = (folder : Path) × Contains folders folder × IsInFolder folder path
 
@@ -65,20 +66,19 @@ IsInOneOf folders path = (folder : Path) × Contains folders folder × IsInFolde
 abbrev pub NamesOneOf : List Path → String Global → Type 0
 NamesOneOf folders text = (path : Path) × IsInOneOf folders path × NamesFile path text
 
--- a number that a recovery would keep stands in both of the folders that are there, or a call on one
--- of them or on a log file in one fails
+-- a number that an opening keeps is in both folders, or a call on one or on its log files fails
 abbrev pub IsSourceRefusal : List Path → Directory → Refusals → Refusals → Fault → Type 0
 IsSourceRefusal there n old new (fault.InvalidArgument text) =
     (queue : LogQueue) × (AreSingle there queue n → ⊥)
 IsSourceRefusal there n old new e = FailsAt (NamesOneOf there) old new e
 
--- memory is wanting, or a call on a source file or on its copy fails
+-- memory ran out, or a call on a source file or on its copy fails
 abbrev pub IsCopyRefusal : Path → List Source → Refusals → Refusals → Fault → Type 0
 IsCopyRefusal target files old new e = (e ≡ fault.Memory) ⊎ ((path : Path)
     × (Contains (copies_in target files) path ⊎ Contains (map (λ f. f.1) files) path)
     × FailsAt (NamesFile path) old new e)
 
--- .. or one on the mark
+-- IsCopyRefusal, or a call on the mark fails
 abbrev pub IsMarkedRefusal : Path → List Source → Refusals → Refusals → Fault → Type 0
 IsMarkedRefusal target files old new e =
     FailsAt (NamesFile (mark_in target)) old new e ⊎ IsCopyRefusal target files old new e
@@ -87,8 +87,7 @@ IsMarkedRefusal target files old new e =
 abbrev pub NamesPlace : Path → List Path → String Global → Type 0
 NamesPlace target folders text = NamesOneOf folders text ⊎ NamesFile (mark_in target) text
 
--- which argument is refused: settings for the first thing that is wrong with them; else a target
--- that isn't free; else a source in both of whose folders a number that would be kept stands
+-- the refused argument: the settings, or a target that isn't free, or a number in both folders
 abbrev pub IsInvalid : Option (List ℕ) → List Path → Path → Directory → List ℕ → Type 0
 IsInvalid (Some reason) there target n text = text ≡ reason
 IsInvalid None there target n text = HasFile n target ⊎ HasForkIn target n

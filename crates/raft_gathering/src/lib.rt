@@ -10,6 +10,6 @@ mod telling;
 
 pub use gathering::{Gathering, gather};
 pub use report::{FileRead, Missing, Report, UnreadPlace};
-pub use sources::{Part, Source, sources_of};
+pub use sources::{Part, Source, named_sources, sources_of};
 pub use tables::{Group, Kept, Run, Tables};
 pub use telling::print_groups;

@@ -8,7 +8,6 @@ use raft_whole_records::Unread;
 use std::alloc::{AllocError, Global};
 
 /// A place at which no record could be read.
-#[derive(Drop)]
 pub struct UnreadPlace {
     /// The file's name.
     pub name: String,
@@ -21,8 +20,21 @@ pub struct UnreadPlace {
     pub is_tail: bool,
 }
 
+// One call in a proof that drops it; derived, it would be one of each field (docs/DECISIONS.md).
+impl Drop for UnreadPlace {
+    fn drop(self) {
+        let UnreadPlace {
+            name: _name,
+            offset: _,
+            len: _,
+            why: _,
+            entries: _entries,
+            is_tail: _,
+        } = self;
+    }
+}
+
 /// How many records were read of a file.
-#[derive(Drop)]
 pub struct FileRead {
     pub name: String,
     pub records: u64,
@@ -30,6 +42,18 @@ pub struct FileRead {
     pub stale: u64,
     /// How many batches were left out, since they belong together with one that is missing.
     pub incomplete: u64,
+}
+
+// One call in a proof that drops it; derived, it would be one of each field (docs/DECISIONS.md).
+impl Drop for FileRead {
+    fn drop(self) {
+        let FileRead {
+            name: _name,
+            records: _,
+            stale: _,
+            incomplete: _,
+        } = self;
+    }
 }
 
 impl FileRead {
@@ -51,11 +75,21 @@ pub struct Missing {
     pub before: u64,
 }
 
-#[derive(Drop)]
 pub struct Report {
     pub files: Vec<FileRead>,
     pub unread: Vec<UnreadPlace>,
     pub missing: Vec<Missing>,
+}
+
+// One call in a proof that drops it; derived, it would be one of each field (docs/DECISIONS.md).
+impl Drop for Report {
+    fn drop(self) {
+        let Report {
+            files: _files,
+            unread: _unread,
+            missing: _missing,
+        } = self;
+    }
 }
 
 impl Report {

@@ -18,6 +18,12 @@ const MUCH: u64 = 64 * 1024 * 1024;
 /// How many bytes the name of a log file has.
 const NAME_LEN: usize = 24;
 
+/// How a repair ends the names of files that an opening passes over, and of those among them that
+/// a purge had dropped.
+const PASSED: &str = ".passed";
+
+const LEFT_OVER: &str = ".left-over";
+
 /// What a file's name says behind that of a log file.
 #[derive(Clone, Copy, PartialEq, Eq)]
 pub enum Part {
@@ -29,8 +35,18 @@ pub enum Part {
     Cut(u64),
 }
 
+/// Which names, after that of a log file, files have that are read.
+#[derive(Clone, Copy, PartialEq, Eq)]
+enum Wanted {
+    /// What a repair cut off, or passed over.
+    Usual,
+    /// Also what a purge had dropped.
+    Stale,
+    /// Each.
+    Named,
+}
+
 /// A file that is read.
-#[derive(Drop)]
 pub struct Source {
     pub id: FileId,
     pub part: Part,
@@ -40,23 +56,41 @@ pub struct Source {
     pub path: String,
 }
 
-/// The files of a folder and of a second one that are read, or those that are named; by queue, the
-/// Rewrite queue's first, then by number, and what was cut off by its place.
+// One call in a proof that drops it; derived, it would be one of each field (docs/DECISIONS.md).
+impl Drop for Source {
+    fn drop(self) {
+        let Source {
+            id: _,
+            part: _,
+            name: _name,
+            path: _path,
+        } = self;
+    }
+}
+
+/// The files of a folder and of a second one that are read; by queue, the Rewrite queue's first,
+/// then by number, and what was cut off by its place. With `stale` also those that a purge had
+/// dropped and a repair moved aside.
 pub fn sources_of(
     rt: &HostRuntime,
     folder: &str,
     spill: Option<&str>,
-    named: &[&str],
+    stale: bool,
 ) -> Result<Vec<Source>> {
-    let alloc = rt.alloc();
-    let mut sources = Vec::new(alloc);
-    if named.is_empty() {
-        add_folder(rt, folder, "", &mut sources)?;
-        if let Some(spill) = spill {
-            add_folder(rt, folder, spill, &mut sources)?;
-        }
+    let wanted = if stale { Wanted::Stale } else { Wanted::Usual };
+    let mut sources = Vec::new(rt.alloc());
+    add_folder(rt, folder, "", wanted, &mut sources)?;
+    if let Some(spill) = spill {
+        add_folder(rt, folder, spill, wanted, &mut sources)?;
     }
-    for name in named {
+    sources.sort_by_key(|source| key_of(source))?;
+    Ok(sources)
+}
+
+/// The files that are named, in the same order. A name without a slash is of the folder.
+pub fn named_sources(alloc: Global, folder: &str, names: &[&str]) -> Result<Vec<Source>> {
+    let mut sources = Vec::new(alloc);
+    for name in names {
         add_named(alloc, folder, name, &mut sources)?;
     }
     sources.sort_by_key(|source| key_of(source))?;
@@ -81,6 +115,7 @@ fn add_folder(
     rt: &HostRuntime,
     folder: &str,
     below: &str,
+    wanted: Wanted,
     sources: &mut Vec<Source>,
 ) -> Result<()> {
     let alloc = rt.alloc();
@@ -103,7 +138,7 @@ fn add_folder(
             format!(in alloc; "{below}/{name}")?
         };
         let path = format!(in alloc; "{folder}/{name}")?;
-        add_source(alloc, name, path, false, sources)?;
+        add_source(alloc, name, path, wanted, sources)?;
     }
     Ok(())
 }
@@ -116,23 +151,23 @@ fn add_named(alloc: Global, folder: &str, name: &str, sources: &mut Vec<Source>)
         format!(in alloc; "{folder}/{name}")?
     };
     let before = sources.len();
-    add_source(alloc, String::from_str(alloc, name)?, path, true, sources)?;
+    let told = String::from_str(alloc, name)?;
+    add_source(alloc, told, path, Wanted::Named, sources)?;
     if sources.len() == before {
         bail!("{name}: its name doesn't begin with a log file's, as 0000000000000001.raftlog");
     }
     Ok(())
 }
 
-// Adds a file whose name begins with a log file's. What else follows that name is a copy, if the
-// file is named.
+// Adds a file whose name begins with a log file's, if what follows is wanted.
 fn add_source(
     alloc: Global,
     name: String,
     path: String,
-    is_named: bool,
+    wanted: Wanted,
     sources: &mut Vec<Source>,
 ) -> Result<()> {
-    if let Some((id, part)) = read_name(alloc, name.as_str(), is_named)? {
+    if let Some((id, part)) = read_name(alloc, name.as_str(), wanted)? {
         sources.push(Source {
             id,
             part,
@@ -144,7 +179,7 @@ fn add_source(
 }
 
 // The log file that a name begins with, and what follows that.
-fn read_name(alloc: Global, name: &str, is_named: bool) -> Result<Option<(FileId, Part)>> {
+fn read_name(alloc: Global, name: &str, wanted: Wanted) -> Result<Option<(FileId, Part)>> {
     let file = match name.rsplit_once('/') {
         Some((_, file)) => file,
         None => name,
@@ -152,7 +187,7 @@ fn read_name(alloc: Global, name: &str, is_named: bool) -> Result<Option<(FileId
     let Some((own, suffix)) = file.split_at_checked(NAME_LEN) else {
         return Ok(None);
     };
-    let Some(part) = part_of(suffix, is_named) else {
+    let Some(part) = part_of(suffix, wanted) else {
         return Ok(None);
     };
     for queue in &[LogQueue::Rewrite, LogQueue::Append] {
@@ -172,7 +207,7 @@ fn id_of(alloc: Global, name: &str, queue: LogQueue) -> Result<Option<FileId>> {
     }
 }
 
-fn part_of(suffix: &str, is_named: bool) -> Option<Part> {
+fn part_of(suffix: &str, wanted: Wanted) -> Option<Part> {
     if suffix.is_empty() {
         return Some(Part::Log);
     }
@@ -183,10 +218,12 @@ fn part_of(suffix: &str, is_named: bool) -> Option<Part> {
         };
         return Some(Part::Cut(digits.parse().ok()?));
     }
-    if is_named || suffix.starts_with(".passed") {
-        return Some(Part::Whole);
-    }
-    None
+    let is_wanted = match wanted {
+        Wanted::Usual => suffix.starts_with(PASSED),
+        Wanted::Stale => suffix.starts_with(PASSED) || suffix.starts_with(LEFT_OVER),
+        Wanted::Named => true,
+    };
+    is_wanted.then_some(Part::Whole)
 }
 
 /// The bytes of a source.

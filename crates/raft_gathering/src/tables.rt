@@ -7,7 +7,6 @@ use std::alloc::{AllocError, Global};
 use std::collections::BTreeMap;
 
 /// The value at a key, and whether it may be older than what was lost.
-#[derive(Drop)]
 pub struct Kept {
     pub value: Vec<u8>,
     /// How many places could not be read before it was written.
@@ -16,11 +15,31 @@ pub struct Kept {
     is_changed: bool,
 }
 
+// One call in a proof that drops it; derived, it would be one of each field (docs/DECISIONS.md).
+impl Drop for Kept {
+    fn drop(self) {
+        let Kept {
+            value: _value,
+            losses: _,
+            is_changed: _,
+        } = self;
+    }
+}
+
 /// Entries of a group that follow one another: the first index, and the bytes of each.
-#[derive(Drop)]
 pub struct Run {
     pub first: u64,
     pub entries: Vec<Vec<u8>>,
+}
+
+// One call in a proof that drops it; derived, it would be one of each field (docs/DECISIONS.md).
+impl Drop for Run {
+    fn drop(self) {
+        let Run {
+            first: _,
+            entries: _entries,
+        } = self;
+    }
 }
 
 impl Run {

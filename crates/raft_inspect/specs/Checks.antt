@@ -11,7 +11,7 @@ use Rattle.raft_dump.specs.Check.{IsCheckOf}
 use Rattle.raft_dump.specs.declared.check.FileCheck.{FileCheck}
 use Rattle.raft_dump.specs.declared.files.LogFile.{LogFile}
 
--- each of them tells what can be read of the file at its place
+-- each check says what can be read of the file at its place in the list
 abbrev pub AreChecksOf : Directory → List LogFile → List FileCheck → Type 0
 AreChecksOf n [] [] = ⊤
 AreChecksOf n [] (_ ∷ _) = ⊥
@@ -19,17 +19,16 @@ AreChecksOf n (_ ∷ _) [] = ⊥
 AreChecksOf n (f ∷ files) (c ∷ checks) =
     IsCheckOf f.id (bytes_at (string_bytes f.path) n) c × AreChecksOf n files checks
 
--- storage counted a failed call, or memory is wanting
+-- storage counted a failed call, or memory ran out
 abbrev pub IsReadFault : Refusals → Refusals → Fault → Type 0
 IsReadFault before after (fault.Io kind path) = RoseBy 1 before after
 IsReadFault before after fault.Memory = ⊤
 IsReadFault before after _ = ⊥
 
--- on files of which these are the directory, its moments and the refusals of calls
+-- for files with this directory, these moments inside calls, and these counts of failed calls
 module _ {F : Type 0} (directory : F → Directory) (moments : F → List Directory)
     (refusals_of : F → Refusals) where
-  -- a call only reads, and answers this of what stands there; or storage counted a failed call, or
-  -- memory is wanting
+  -- a call only reads; it returns what IsFound says, or fails for a counted refusal or for memory
   pub record Finds {T : Type 0} (result : Result T Fault) (IsFound : T → Type 0) (old new : F)
       : Type 0 where
     pub value : IfOk result IsFound

@@ -1,4 +1,4 @@
--- What an opening cuts off of log files.
+-- What an opening cuts off log files.
 use Rattle.std.specs.Prelude.{◌≡◌, ℕ, ◌-◌, ◌==◌, Bool, true, false, List, [], ◌∷◌, length, Option, Some, None, if◌then◌else◌}
 use Rattle.std.specs.List.{cons_option}
 use Rattle.std.specs.Option.{option_map}
@@ -18,18 +18,21 @@ use Rattle.raft_inspect.specs.declared.cuts.Cut.{Cut as TheCut}
 use Rattle.raft_inspect.specs.declared.cuts.Unexplained.{Unexplained}
 use Rattle.raft_inspect.specs.declared.cuts.Unexplained.TheVariants.{Earlier, Records, Unsearched}
 
--- bytes of a file: its number and path, where they begin, how many there are, whether they are
--- called stale (then a record of an earlier file stands in them), whether the file is its queue's
--- last one, and the version of its records, where its header tells one
+-- bytes of a log file that an opening cuts off
 pub record CutPlace : Type 0 where
   pub id : FileId
   pub path : Path
+  -- where they begin, and how many there are
   pub offset : ℕ
   pub len : ℕ
+  -- a record of an earlier file is in them
   pub stale : Bool
+  -- the file is the last one of its queue
   pub is_last : Bool
+  -- the version of the file's records, if its header has one
   pub version : Option Version
 
+-- the bytes that a reported cut names
 abbrev pub place_of : TheCut → CutPlace
 place_of c = record {
   id = c.id;
@@ -41,7 +44,7 @@ place_of c = record {
   version = c.version;
 }
 
--- those behind what can be read of a file, which is the last one or isn't
+-- the bytes after what can be read of a file
 abbrev pub place_in : Bool → LogFile → FileCheck → CutPlace
 place_in is_last f c = record {
   id = f.id;
@@ -53,17 +56,17 @@ place_in is_last f c = record {
   version = option_map (λ format. format.version) c.format;
 }
 
+-- the reported cut names the bytes after what can be read of this file
 abbrev pub IsToldOf : Bool → LogFile → FileCheck → TheCut → Type 0
 IsToldOf is_last f c told = place_of told ≡ place_in is_last f c
 
--- what is told of a file of which this is planned: zeros that were made ahead hold nothing
+-- the bytes that this plan cuts off a file: none if they are zeros, which hold nothing
 abbrev pub cut_as : Planned → Bool → LogFile → FileCheck → Option CutPlace
 cut_as (Cut _) is_last f c = if c.zeros then None else Some (place_in is_last f c)
 cut_as Keep is_last f c = None
 cut_as Fail is_last f c = None
 
--- .. of each of these files of a queue, with what can be read of them: one is the last where none
--- stands behind it
+-- the cuts in files of a queue, by what can be read of each; the last file is the queue's last one
 abbrev pub cuts_in : RecoveryMode → List LogFile → List FileCheck → List CutPlace
 cuts_in mode files [] = []
 cuts_in mode [] (c ∷ checks) = []
@@ -72,8 +75,7 @@ cuts_in mode (f ∷ files) (c ∷ checks) =
     cons_option (cut_as (planned_stop (tolerates_corruption mode is_last) c.end c.stop) is_last f c)
     (cuts_in mode files checks)
 
--- why an unsynced tail doesn't explain these bytes: nothing hinders it where no whole record stands
--- there
+-- why an unsynced tail can't explain these bytes; `None`: no whole record is in them
 abbrev pub IsToldWhy : TheCut → List ℕ → Option Unexplained → Type 0
 IsToldWhy c bytes (Some Earlier) = c.is_last ≡ false
 IsToldWhy c bytes (Some Records) = (c.is_last ≡ true) × HoldsRecord c.id.seq c.version bytes

@@ -15,7 +15,7 @@ use Rattle.raft_inspect.specs.Checks.{AreChecksOf}
 use Rattle.raft_inspect.specs.declared.kept.KeptFiles.{KeptFiles}
 use Rattle.raft_inspect.specs.declared.losses.Passed.{Passed}
 
--- those of the settings' folders that are there
+-- those of the settings' folders that exist
 abbrev pub folders_there : Folders → Directory → List Path
 folders_there folders n = filter n.is_folder (all_of folders)
 
@@ -23,7 +23,7 @@ folders_there folders n = filter n.is_folder (all_of folders)
 abbrev pub kept_in : List Path → LogQueue → Directory → List (FileId × Path)
 kept_in folders queue n = map (λ f. (in_queue queue f.0, f.1)) (kept_files folders queue n)
 
--- these are kept, none of them passed over, and so much can be read of each
+-- an opening of these folders keeps these files of the queue, and can read this much of each
 pub record AreKeptOf (folders : List Path) (queue : LogQueue) (n : Directory) (kept : KeptFiles)
     : Type 0 where
   pub queue_is : kept.found.queue ≡ queue
@@ -37,37 +37,37 @@ abbrev pub all_in : List Path → LogQueue → Directory → List (FileId × Pat
 all_in folders queue n =
     flat_map (λ folder. filter_map (file_named folder queue) (names_in folder n)) folders
 
--- whether an opening that keeps these passes a file over: it is another one, and of no greater number than
--- the first of them
+-- an opening that keeps these files passes this one over: it is another one, of no greater number
 abbrev pub is_passed : List (FileId × Path) → FileId × Path → Bool
 is_passed [] f = true
 is_passed (k ∷ kept) f = nat_le f.0.seq k.0.seq && not (bytes_eq f.1 k.1)
 
--- a header or zeros are all that a file has
+-- the file has only a header or zeros
 abbrev pub holds_nothing : FileCheck → Bool
 holds_nothing c = (c.records == 0) && (is_none c.stop || c.zeros)
 
--- those of them that hold something
+-- the files that hold something
 abbrev pub those_held : List FileCheck → List FileCheck
 those_held checks = filter (λ c. not (holds_nothing c)) checks
 
--- what is told of files that are passed over: how many of them hold something, how many bytes these have and the
--- least of their numbers; the greatest number of all, and the one behind it
+-- what is reported of files that are passed over, if some hold something
 pub record IsPassedOf (queue : LogQueue) (checks : List FileCheck) (p : Passed) : Type 0 where
   pub queue_is : p.queue ≡ queue
   pub some : list_all holds_nothing checks ≡ false
+  -- files that hold something, their bytes, and the least number of them
   pub files : p.files ≡ length (those_held checks)
   pub bytes : p.bytes ≡ min (sum_by (λ c. c.len) (those_held checks)) (2 ^ 64 - 1)
   pub first : p.first ≡ fold min (2 ^ 64 - 1) (numbers_of (those_held checks))
+  -- the greatest number of all, and the next one
   pub last : p.last ≡ fold max 0 (numbers_of checks)
   pub missing : p.missing ≡ min (p.last + 1) (2 ^ 64 - 1)
 
--- .. and nothing where none of them holds anything
+-- IsPassedOf, or no report if none of the files holds anything
 abbrev pub IsPassedTold : LogQueue → List FileCheck → Option Passed → Type 0
 IsPassedTold queue checks None = list_all holds_nothing checks ≡ true
 IsPassedTold queue checks (Some p) = IsPassedOf queue checks p
 
--- .. of those of a queue in these folders
+-- the report on the files of a queue in these folders that an opening passes over
 pub record ArePassedOf (folders : List Path) (queue : LogQueue) (n : Directory)
     (told : Option Passed) : Type 0 where
   pub listed : List LogFile

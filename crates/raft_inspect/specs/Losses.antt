@@ -16,12 +16,12 @@ use Rattle.raft_inspect.specs.declared.kept.KeptFiles.{KeptFiles}
 use Rattle.raft_inspect.specs.declared.losses.Losses.{Losses}
 use Rattle.raft_inspect.specs.declared.losses.Passed.{Passed}
 
--- an opening that keeps these files fails: it is planned to, or a number stands in two folders
+-- an opening that keeps these files fails: by its plan, or one number is in two folders
 abbrev pub IsToFail : RecoveryMode → List Path → LogQueue → Directory → KeptFiles → Type 0
 IsToFail mode folders queue n kept = Contains (plan_of mode kept.found.checks.items) Fail
     ⊎ (AreSingle folders queue n → ⊥)
 
--- what it cuts off of them, where it doesn't
+-- the cuts of an opening that keeps these files and doesn't fail
 abbrev pub cuts_by : RecoveryMode → KeptFiles → List CutPlace
 cuts_by mode kept = cuts_in mode kept.found.files.items kept.found.checks.items
 
@@ -43,7 +43,7 @@ pub record AreLossesIn (mode : RecoveryMode) (folders : List Path) (n : Director
   pub of_rewrite : ArePassedOf folders Rewrite n rewrite_passed
   pub of_append : ArePassedOf folders Append n append_passed
 
--- .. in those of the settings' folders that are there
+-- AreLossesIn, for those of the settings' folders that exist
 abbrev pub AreLossesOf : Config → Directory → Losses → Type 0
 AreLossesOf config n losses =
     AreLossesIn config.recovery_mode (folders_there (folders_in config) n) n losses

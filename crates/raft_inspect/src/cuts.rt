@@ -46,8 +46,8 @@ pub enum Unexplained {
 }
 
 impl Cut {
-    // What an opening that tolerates broken bytes, or doesn't, cuts off of a file. Zeros that were made
-    // ahead hold nothing, and aren't told.
+    // What an opening cuts off a file, by whether it tolerates broken bytes. Zeros that were made
+    // ahead hold nothing, and aren't reported.
     fn planned(
         file: &LogFile,
         check: &FileCheck,
@@ -74,7 +74,7 @@ impl Cut {
         Ok(Some(Cut::new(file, check, is_last)?))
     }
 
-    // From where its reading ends on.
+    // A cut from the place where the file's reading ends.
     fn new(file: &LogFile, check: &FileCheck, is_last: bool) -> Result<Cut, AllocError>
         ensures value { IfOk result (IsToldOf is_last file.now check.now) }
     {

@@ -62,7 +62,7 @@ pub fn add_fault(
     Ok(())
 }
 
-// Where an item stands.
+// The place of an item.
 fn place_fields(place: Option<RecordPlace>) -> [Field<'static>; 3] {
     let (queue, number, offset) = match place {
         Some(place) => (
@@ -148,7 +148,7 @@ fn add_value(
     Ok(())
 }
 
-// The bytes of an entry as they stand in its file, whether its block is sound or not.
+// The bytes of an entry as they are in its file, whether its block is sound or not.
 fn entry_bytes<F: FileSystem>(
     alloc: Global,
     file_system: &mut F,

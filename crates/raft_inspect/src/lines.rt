@@ -80,7 +80,7 @@ impl Lines {
         self.added()
     }
 
-    // Fails where memory was wanting since the last time.
+    // Fails if memory ran out since the last time.
     fn added(&mut self) -> Result<(), AllocError> {
         if self.failed {
             self.failed = false;
@@ -207,7 +207,7 @@ impl Lines {
         }
     }
 
-    // Bytes that are no text stand in an object of their digits.
+    // Bytes that are no text become an object of their digits.
     fn value(&mut self, word: Word<'_>) {
         match word {
             Word::Text(text) => self.quoted(text),

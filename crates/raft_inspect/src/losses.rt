@@ -110,7 +110,7 @@ fn either(rewrite: bool, append: bool) -> bool
     rewrite || append
 }
 
-// Of both queues, and nothing where the opening fails.
+// The cuts of both queues, or none if the opening fails.
 fn cuts_where(
     alloc: Global,
     mode: RecoveryMode,
@@ -134,7 +134,7 @@ fn cuts_where(
     Ok(cuts)
 }
 
-// What is told of either queue.
+// The reports on both queues.
 fn those_told(
     alloc: Global,
     rewrite: Option<Passed>,

@@ -143,7 +143,7 @@ fn file_text(alloc: Global, file: &FileUsage) -> Result<String, AllocError> {
     format!(in alloc; "{}: {all}, the index refers to {used}", file.path)
 }
 
-// What is referred to stands from the bottom up, group by group.
+// Referenced bytes are drawn from the bottom up, group by group.
 fn add_groups(alloc: Global, svg: &mut Svg, file: &FileUsage, area: Area, groups: &[GroupUsage]) {
     let bottom = area.y.saturating_add(area.height);
     let mut below = 0u64;
@@ -189,7 +189,7 @@ fn group_text(alloc: Global, usage: &GroupUsage) -> Result<String, AllocError> {
     }
 }
 
-// Four signs stand in a row of the legend.
+// A row of the legend has four signs.
 fn add_key(svg: &mut Svg, place: u64, color: &str, text: &str) {
     let x = (place % 4).saturating_mul(28_000).saturating_add(LEFT);
     let y = (place / 4).saturating_mul(2_600).saturating_add(LEGEND);

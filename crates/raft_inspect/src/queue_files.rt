@@ -99,7 +99,7 @@ pub(crate) fn checks_of<F: FileSystem>(
     Ok(checks)
 }
 
-// Adds those in a folder, where it is there.
+// Adds those in a folder, if it exists.
 fn add_there<F: FileSystem>(
     alloc: Global,
     folder: &str,

@@ -57,7 +57,7 @@ fn planned_at(plan: &[Planned], place: usize) -> &'static str {
     }
 }
 
-// What stands between a file and the one before it in its queue.
+// Reports what is between a file and the one before it in its queue.
 fn add_gap(found: &QueueFiles, place: usize, lines: &mut Lines) -> Result<(), Fault> {
     let (Some(before), Some(check)) = (found.number_before(place), found.checks.get(place)) else {
         return Ok(());
@@ -104,7 +104,7 @@ fn version_number(check: &FileCheck) -> u64 {
     }
 }
 
-// What stands after the records that can be read.
+// What follows the records that can be read.
 fn rest_name(check: &FileCheck) -> &'static str {
     match &check.stop {
         None => "none",

@@ -56,7 +56,7 @@ pub fn read_text(alloc: Global, text: &[u8]) -> Result<Vec<u8>, Misspelled> {
     Ok(bytes)
 }
 
-// The byte that a sign tells, or begins to tell, and what stands after it.
+// The byte that a sign means, or begins to spell, and the rest.
 fn told(sign: u8, rest: &[u8]) -> Option<(u8, &[u8])>
     ensures within { IfSome result (λ r. length r.1.now ≤ length rest.now) }
 {
@@ -67,7 +67,7 @@ fn told(sign: u8, rest: &[u8]) -> Option<(u8, &[u8])>
     }
 }
 
-// The byte that is told behind `\`, and what stands after it.
+// The byte that is spelled after `\`, and the rest.
 fn spelled(text: &[u8]) -> Option<(u8, &[u8])>
     ensures within { IfSome result (λ r. length r.1.now ≤ length text.now) }
 {

@@ -238,7 +238,7 @@ impl<F: FileSystem> BatchReader<F> {
 }
 
 impl QueueUsage {
-    // Of the files that an opening keeps, before anything refers to them.
+    // The files that an opening keeps, before anything refers to them.
     fn new(alloc: Global, found: &QueueFiles) -> Result<QueueUsage, AllocError> {
         let mut files = Vec::new(alloc);
         for (file, check) in found.kept_files().iter().zip(found.kept_checks()) {
@@ -255,7 +255,7 @@ impl QueueUsage {
         })
     }
 
-    // Adds bytes of a file, where it is one of these. Groups come in their order.
+    // Adds bytes of a file, if it is one of these. Groups come in their order.
     fn add(&mut self, id: FileId, group: u64, len: u64) -> Result<(), AllocError> {
         let first = match self.files.first() {
             Some(file) => file.id.seq,

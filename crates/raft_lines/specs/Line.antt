@@ -1,4 +1,4 @@
--- The lines that the program reads, and what each asks for.
+-- The lines that the program reads, and what each requests.
 use Rattle.std.specs.Prelude.{◌≡◌, ℕ, ◌+◌, ◌==◌, ◌&&◌, ◌||◌, not, map, nat_le, nat_lt, Bool, true, false, List, [], ◌∷◌, length, codes, Option, Some, None, is_none, is_some, IfSome, option_and_then, option_map, if◌then◌else◌}
 use Rattle.std.specs.List.{list_all, onto_first, slice_split}
 use Rattle.std.specs.Char.{is_ascii_graphic}
@@ -24,7 +24,7 @@ use Rattle.raft_script.specs.declared.operation.Act.TheVariants as act
 use Rattle.raft_script.specs.declared.operation.Op.{Op}
 use Rattle.raft_script.specs.declared.operation.Op.TheVariants as op
 
--- what a line asks for
+-- what a line requests
 pub data Asked : Type 0 where
   Nothing : Asked
   Put : (group : ℕ) (key : List ℕ) (value : List ℕ) (sync : Bool) → Asked
@@ -58,17 +58,17 @@ words_in (c ∷ cs) =
     let parts = slice_split (λ b. b == 32) (c ∷ cs) in
     if list_all is_word parts then Some parts else None
 
--- this, where no word follows
+-- this, if no word follows
 abbrev pub if_last : {T : Type 0} → T → List (List ℕ) → Option T
 if_last x [] = Some x
 if_last x (word ∷ words) = None
 
--- what the words after a number ask for
+-- what the words after a number request
 abbrev pub with_number : {T : Type 0} → (ℕ → List (List ℕ) → Option T) → List (List ℕ) → Option T
 with_number asked [] = None
 with_number asked (word ∷ words) = option_and_then (λ n. asked n words) (number_in word)
 
--- a number alone
+-- a number, with no word after it
 abbrev pub number_by : List (List ℕ) → Option ℕ
 number_by words = with_number if_last words
 
@@ -104,7 +104,7 @@ numbered_by group number _ = None
 abbrev pub once_by : List (List ℕ) → Option Asked
 once_by words = with_number (λ group. with_number (numbered_by group)) words
 
--- W [sync], where the first index isn't past the last
+-- W [sync], if the first index isn't after the last
 abbrev pub words_by : ℕ → ℕ → ℕ → List (List ℕ) → Option Asked
 words_by group first last [] = None
 words_by group first last (word ∷ words) = if nat_le first last then option_map
@@ -149,7 +149,7 @@ rewrite_by (word ∷ words) =
     else if bytes_eq word (codes "stale") then if_last call.PurgeStale words
     else None
 
--- torn KEPT FILL, where FILL is a byte
+-- torn KEPT FILL; FILL is a byte
 abbrev pub torn_by : List (List ℕ) → Option CrashChoice
 torn_by (kept ∷ fill ∷ words) =
     option_and_then (λ k. option_and_then (λ f. if nat_lt f 256 then if_last
@@ -165,7 +165,7 @@ left_by (word ∷ words) =
     else if bytes_eq word (codes "torn") then torn_by words
     else None
 
--- what a call asks for
+-- what a call requests
 abbrev pub asked_of_call : Call → Asked
 asked_of_call (call.Put group key value sync) = Put group key.now value.now sync
 asked_of_call (call.Delete group key sync) = Delete group key.now sync
@@ -184,7 +184,7 @@ asked_of_call call.RewriteRewrite = RewriteRewrite
 asked_of_call call.PurgeStale = PurgeStale
 asked_of_call call.Purge = Purge
 
--- what words behind this one ask for of the whole log
+-- what this word and those after it request of the whole log
 abbrev pub asked_of_log : List ℕ → List (List ℕ) → Option Asked
 asked_of_log verb words =
     if bytes_eq verb (codes "rewrite") then option_map asked_of_call (rewrite_by words)
@@ -193,7 +193,7 @@ asked_of_log verb words =
     else if bytes_eq verb (codes "crash") then option_map Crash (left_by words)
     else None
 
--- .. or look at
+-- what they request to look at, or of the whole log
 abbrev pub asked_to_look : List ℕ → List (List ℕ) → Option Asked
 asked_to_look verb words =
     if bytes_eq verb (codes "range") then option_map Range (number_by words)
@@ -201,7 +201,7 @@ asked_to_look verb words =
     else if bytes_eq verb (codes "span") then option_map Span (queue_by words)
     else asked_of_log verb words
 
--- .. or ask for of a group's entries, or of all groups
+-- what they request of a group's entries or of all groups, or else asked_to_look
 abbrev pub asked_of_group : List ℕ → List (List ℕ) → Option Asked
 asked_of_group verb words =
     if bytes_eq verb (codes "ent") then entries_by words
@@ -211,7 +211,7 @@ asked_of_group verb words =
     else if bytes_eq verb (codes "groups") then if_last Groups words
     else asked_to_look verb words
 
--- what words ask for, by the first of them
+-- what words request, by the first of them
 abbrev pub parsed_words : List (List ℕ) → Option Asked
 parsed_words [] = None
 parsed_words (verb ∷ words) =
@@ -222,19 +222,19 @@ parsed_words (verb ∷ words) =
     else if bytes_eq verb (codes "sync") then if_last Sync words
     else asked_of_group verb words
 
--- what a line asks for: nothing where it is empty or begins with #
+-- what a line requests: nothing if it is empty or begins with #
 abbrev pub asked_in : List ℕ → Option Asked
 asked_in [] = Some Nothing
 asked_in (c ∷ cs) = if c == 35 then Some Nothing else option_and_then parsed_words (words_in
     (c ∷ cs))
 
--- what is looked at
+-- what a look requests
 abbrev pub asked_of_look : Look → Asked
 asked_of_look (look.Range group) = Range group
 asked_of_look (look.Scan group) = Scan group
 asked_of_look (look.Span queue) = Span queue
 
--- what a line as it was read asks for
+-- what a line requests, as it was read
 abbrev pub asked_of : Line → Asked
 asked_of line.Nothing = Nothing
 asked_of (line.Call call) = asked_of_call call
@@ -251,13 +251,13 @@ asked_by_acts (act.Entries group entries ∷ []) sync =
 asked_by_acts (act.Clean group ∷ []) sync = Some (Clean group sync)
 asked_by_acts _ sync = None
 
--- .. and that one does with numbers: of a single put and a single pair
+-- the line that a write with numbers does: one of a single put and a single pair
 abbrev pub asked_by_numbered : List Act → List (ℕ × ℕ) → Bool → Option Asked
 asked_by_numbered (act.Put group key value ∷ []) (pair ∷ []) sync =
     Some (Once pair group key.items value.items sync)
 asked_by_numbered _ _ sync = None
 
--- .. and that an operation does, if any
+-- the line that an operation does, if there is one
 abbrev pub asked_by_op : Op → Option Asked
 asked_by_op (op.Write acts sync) = asked_by_acts acts.items sync
 asked_by_op (op.WriteOnce acts pairs sync) = asked_by_numbered acts.items pairs.items sync
@@ -273,7 +273,7 @@ asked_by_op op.PurgeStale = Some PurgeStale
 asked_by_op op.Purge = Some Purge
 asked_by_op _ = None
 
--- no word begins the text
+-- the text begins with no word
 abbrev pub HasNoWord : List ℕ → Type 0
 HasNoWord text = (word : List ℕ) (words : List (List ℕ)) → words_in text ≡ Some (word ∷ words) → ⊥
 
@@ -286,17 +286,17 @@ abbrev pub lines_in : List ℕ → List (List ℕ)
 lines_in [] = []
 lines_in (c ∷ cs) = if c == 10 then [] ∷ lines_in cs else onto_first c (lines_in cs)
 
--- whether a line asks for something
+-- the line can be read, and requests something
 abbrev pub is_asked : Option Asked → Bool
 is_asked None = false
 is_asked (Some Nothing) = false
 is_asked (Some asked) = true
 
+-- the line sets nothing, and requests something
 abbrev pub asks : List ℕ → Bool
 asks line = if is_some (text_set line) then false else is_asked (asked_in line)
 
--- a line of settings is bad after one that asked for something; any other where it asks for nothing
--- that the program knows
+-- the line sets something after another one requested something, or it can't be read
 abbrev pub is_bad : Bool → List ℕ → Bool
 is_bad asked line = if is_some (text_set line) then asked else is_none (asked_in line)
 
@@ -306,11 +306,11 @@ first_bad asked number [] = None
 first_bad asked number (line ∷ lines) = if is_bad asked line then Some number
     else first_bad (asked || asks line) (number + 1) lines
 
--- .. in a text, counted from 1
+-- the number of the first bad line of a text, counted from 1
 abbrev pub first_bad_line : List ℕ → Option ℕ
 first_bad_line text = first_bad false 1 (lines_in text)
 
--- what is known of a text where the program ended so on it
+-- what the end of the program says of a text
 abbrev pub EndsOn : List ℕ → Ended → Type 0
 EndsOn text ended.Done = first_bad_line text ≡ None
 EndsOn text (ended.BadLine number) = first_bad_line text ≡ Some number
@@ -322,25 +322,24 @@ IsNextLine true text line left =
     (rest : List ℕ) × (left ≡ Some rest) × (lines_in text ≡ line ∷ lines_in rest)
 IsNextLine false text line left = text ≡ []
 
--- the lines before this number are good, and these bytes are left after them; one of them asked for
--- something, or none
+-- the lines before this number are good, and these bytes are left; asked: one requests something
 abbrev pub IsReading : Option (List ℕ) → Option (List ℕ) → ℕ → Bool → Type 0
 IsReading None left number asked = Unit {0}
 IsReading (Some text) left number asked = (rest : List ℕ) × (left ≡ Some rest)
     × (first_bad_line text ≡ first_bad asked number (lines_in rest))
 
--- a line of this number ends the program so, where it is bad or not
+-- the program may end so at the line of this number, which is bad or not
 abbrev pub EndsAt : Bool → ℕ → Ended → Type 0
 EndsAt bad number ended.Done = ⊥
 EndsAt bad number (ended.BadLine told) = (told ≡ number) × (bad ≡ true)
 EndsAt bad number _ = Unit {0}
 
--- .. or the program goes on after it, and then a line asked for something or none did
+-- the program continues after the line, which isn't bad, or ends at it
 abbrev pub IsServed : Bool → Bool → ℕ → Bool → Option Ended → Type 0
 IsServed bad asked number then_asked None = (bad ≡ false) × (then_asked ≡ asked)
 IsServed bad asked number then_asked (Some ended) = EndsAt bad number ended
 
--- the program goes on after the line of this number, or ends there
+-- the program continues after the line of this number, or ends there
 abbrev pub GoesOnOrEnds : Option (List ℕ) → Option (List ℕ) → ℕ → Bool → Option Ended → Type 0
 GoesOnOrEnds known left number asked None = IsReading known left (number + 1) asked
 GoesOnOrEnds known left number asked (Some ended) = IfSome known (λ text. EndsOn text ended)

@@ -1,4 +1,4 @@
--- What the program answers.
+-- What the program replies.
 use Rattle.std.specs.Prelude.{◌≡◌, ◌⊎◌, ℕ, Bool, true, false, [], Option, Some, None, Result, Ok, Err, Vec}
 use Rattle.std.specs.declared.alloc.Global.{Global}
 use Rattle.raft_base.specs.declared.errors.Fault.{Fault}
@@ -40,7 +40,7 @@ IsOpeningFault config files e = IsContradiction config e ⊎ ((old : Refusals) �
     × IsOpeningRefusal config.recovery_mode (folders_in config) files old new e)
 
 module _ {F H R W : Type 0} {g : Ghosts F H R W} where
-  -- the operation that does what is asked is done, and answered so by the engine
+  -- the engine did the operation that a line requests, with this outcome
   pub record IsAnswered (asked : Asked) (outcome : Outcome) (old new : Engine F H R W g) : Type 0 where
     pub op : Op
     pub does : asked_by_op op ≡ Some asked
@@ -56,27 +56,26 @@ module _ {F H R W : Type 0} {g : Ghosts F H R W} where
     pub folders : folders_of new ≡ folders_of old
     pub begun : begun_of new ≡ begun_of old
 
-  -- an engine that was just opened in these folders, and found these contents and groups there
+  -- an engine just opened in these folders, which found these contents and groups there
   pub record IsNewWith (folders : Folders) (m : Contents) (known : ℕ → Bool) (e : Engine F H R W g)
       : Type 0 where
     pub new : IsNewIn folders e
     pub contents : contents_of e ≡ m
     pub groups : (group : ℕ) → is_known_in e group ≡ known group
 
-  -- the engine that a line meets: the one before it, or one that is opened for it and holds nothing
+  -- the engine for a line: the one before it, or one that is opened for it and holds nothing
   abbrev pub IsMetBy : Config → Option (Engine F H R W g) → Engine F H R W g → Type 0
   IsMetBy config None e = IsNewWith (folders_in config) no_contents (known_in []) e
   IsMetBy config (Some before) e = e ≡ before
 
-  -- an engine that stood was closed, and what it held is opened again; no other groups are known
+  -- a usable engine was closed, and what it held was opened again; no other groups are known
   pub record IsReopened (old new : Engine F H R W g) : Type 0 where
     pub stood : has_failed old ≡ false
     pub new_is : IsNewIn (folders_of old) new
     pub contents : contents_of new ≡ contents_of old
     pub groups : (group : ℕ) → is_known_in new group ≡ true → is_known_in old group ≡ true
 
-  -- an engine isn't closed since it had failed, and else closed or opened again for a call on its
-  -- folders or their log files
+  -- why a reopening fails: the engine had failed, or a call on its folders or log files fails
   abbrev pub IsReopenFault : Engine F H R W g → Fault → Type 0
   IsReopenFault old e = ((has_failed old ≡ true) × (e ≡ fault.Failed))
       ⊎ ((has_failed old ≡ false) × (new : Refusals)
@@ -88,14 +87,13 @@ module _ {F H R W : Type 0} {g : Ghosts F H R W} where
       × IsNewWith folders (contents_after_crash folders (directory_of old) image)
       (known_after_crash folders (directory_of old) image) new
 
-  -- its files aren't listed or left, or what a crash left of them isn't opened
+  -- why a crash fails: the files aren't listed or made, or what is left of them isn't opened
   abbrev pub IsCrashFault : Config → Engine F H R W g → Fault → Type 0
   IsCrashFault config old e = IsStorageOrMemory e
       ⊎ ((image : CrashImage) × Leaves (directory_of old) image × (files : Directory)
       × IsRestarted (directory_of old) image files × IsOpeningFault config files e)
 
-  -- a group's keys with their values, but for its number, each once and in order, or why they
-  -- aren't listed
+  -- a group's keys with their values, without its number, or why they aren't listed
   abbrev pub IsScanAnswer : Engine F H R W g → ℕ → Result (Vec (Vec ℕ Global × Vec ℕ Global) Global)
       Fault → Type 0
   IsScanAnswer e group (Ok pairs) =
@@ -103,7 +101,7 @@ module _ {F H R W : Type 0} {g : Ghosts F H R W} where
   IsScanAnswer e group (Err refusal) =
       (refusal ≡ fault.Memory) ⊎ ((refusal ≡ fault.Failed) × (has_failed e ≡ true))
 
-  -- what is looked at is answered so
+  -- the reply to a look
   abbrev pub AnswersLook : Asked → Answer → Engine F H R W g → Type 0
   AnswersLook (Range group) (answer.Range range) e =
       has_failed e ≡ false → range ≡ range_of ((contents_of e).entries group)
@@ -111,20 +109,19 @@ module _ {F H R W : Type 0} {g : Ghosts F H R W} where
   AnswersLook (Span queue) (answer.Span span) e = IsSpanOf queue e span
   AnswersLook asked _ e = ⊥
 
-  -- the engine answers so, and is there afterwards
+  -- the reply of the engine to a request, and the engine after it
   abbrev pub AnswersAsked : Asked → Answer → Engine F H R W g → Engine F H R W g → Type 0
   AnswersAsked asked (answer.Outcome outcome) old new = IsAnswered asked outcome old new
   AnswersAsked asked a old new = (new ≡ old) × AnswersLook asked a old
 
-  -- such an engine is there after an opening; or it fails so, and the program ends
+  -- an opening gives such an engine, or it fails for such a cause, and the program ends
   abbrev pub OpensTo : Answer → Option (Engine F H R W g) → (Engine F H R W g → Type 0)
       → (Fault → Type 0) → Type 0
   OpensTo answer.Done (Some new) P IsCause = P new
   OpensTo (answer.Fatal e) new P IsCause = IsCause e
   OpensTo a new P IsCause = ⊥
 
-  -- what a line asks for is answered so by the engine that it meets, and this one is there after it;
-  -- a reopening or a crash that fails ends the program
+  -- the reply to a request, and the engine after it; a failed reopening or crash ends the program
   abbrev pub AnswersFrom : Config → Asked → Answer → Engine F H R W g → Option (Engine F H R W g)
       → Type 0
   AnswersFrom config Reopen a met new = OpensTo a new (IsReopened met) (IsReopenFault met)
@@ -133,23 +130,21 @@ module _ {F H R W : Type 0} {g : Ghosts F H R W} where
   AnswersFrom config asked a met (Some new) = AnswersAsked asked a met new
   AnswersFrom config asked a met None = ⊥
 
-  -- by these settings what a line asks for is answered by the engine that it meets; or there is none,
-  -- and the program ends since none can be opened
+  -- AnswersFrom with the engine for the line; or none can be opened, and the program ends
   abbrev pub AnswersBy : Config → Asked → Answer → Option (Engine F H R W g)
       → Option (Engine F H R W g) → Type 0
   AnswersBy config asked a old new =
       ((e : Fault) × (a ≡ answer.Fatal e) × (old ≡ None) × IsOpeningFault config no_files e)
       ⊎ ((met : Engine F H R W g) × IsMetBy config old met × AnswersFrom config asked a met new)
 
-  -- a line that asks for nothing is passed over; else it is answered by the settings that it meets, or
-  -- the program ends since the lines make none
+  -- a line that requests nothing is skipped; another one gets its reply, or there are no settings
   abbrev pub AnswersLine : Settings → Settings → Asked → Answer → Option (Engine F H R W g)
       → Option (Engine F H R W g) → Type 0
   AnswersLine set made asked a old new = ((asked ≡ Nothing) × (a ≡ answer.Nothing) × (new ≡ old))
       ⊎ ((e : Fault) × (a ≡ answer.Fatal e) × (set.config ≡ None) × IsSetRefusal set.lines.items e)
       ⊎ ((config : Config) × AreMet set made config × AnswersBy config asked a old new)
 
--- the program ends with this answer
+-- the program ends with this reply
 abbrev pub is_fatal : Answer → Bool
 is_fatal (answer.Fatal e) = true
 is_fatal _ = false

@@ -14,8 +14,7 @@ abbrev pub text_set : List ℕ → Option (List ℕ)
 text_set line = if bytes_eq (take 4 line) (codes "set ") && nat_lt 4 (length line)
     then Some (drop 4 line) else None
 
--- the program's own settings: the default ones but for the folder, the size of a file and the size
--- of the Append queue above which it is purged
+-- the program's own settings: the default ones except for the folder and two sizes
 pub record AreOwn (c : Config) : Type 0 where
   pub dir : string_bytes c.dir ≡ codes "raft"
   pub target_file_size : c.target_file_size.0 ≡ 1024
@@ -28,23 +27,22 @@ pub record AreOwn (c : Config) : Type 0 where
     purge_threshold = default.purge_threshold;
   } ≡ default
 
--- these lines make settings of the program's own
+-- these lines make settings over the program's own
 abbrev pub SetsOwn : List ℕ → Config → Type 0
 SetsOwn lines c = (own : Config) × AreOwn own × Reads lines own c
 
--- .. or are refused: they are no text, or one that makes none, or memory is wanting
+-- such lines are refused: they are no text, or make no settings, or memory ran out
 abbrev pub IsSetRefusal : List ℕ → Fault → Type 0
 IsSetRefusal lines (fault.InvalidArgument reason) = (IsUtf8 lines → ⊥)
     ⊎ ((own : Config) × AreOwn own × ((c : Config) → Reads lines own c → ⊥))
 IsSetRefusal lines fault.Memory = Unit {0}
 IsSetRefusal lines _ = ⊥
 
--- the lines of settings were read, since another line asked for something
+-- the lines of settings were read, since another line requested something
 abbrev pub were_read : Settings → Bool
 were_read settings = is_some settings.config
 
--- a line meets these settings: those that were read before it, or else some that are made of the
--- lines
+-- the settings for a line: those that were read before it, or else some made of the lines
 pub record AreMet (old new : Settings) (c : Config) : Type 0 where
   pub is : new.config ≡ Some c
   pub once : were_read old ≡ true → new ≡ old

@@ -429,8 +429,8 @@ fn parse_last_number(rest: &[u8]) -> Option<u64>
     Some(number)
 }
 
-// The first word, and what follows the space after it: a word is of printable characters, and one space stands
-// between two words. After the last word nothing follows.
+// The first word, and what follows the space after it. A word is of printable characters, and one
+// space is between two words. After the last word nothing follows.
 fn split_word(text: &[u8]) -> Option<(&[u8], &[u8])>
     ensures value { MatchOption result (HasNoWord text.now)
         (λ found. BeginsWith text.now found.0.now found.1.now) }
@@ -441,13 +441,13 @@ fn split_word(text: &[u8]) -> Option<(&[u8], &[u8])>
     }
     match rest {
         [] => Some((word, rest)),
-        // A space at the end of the line would stand before an empty word.
+        // A space at the end of the line would come before an empty word.
         [_] => None,
         [_, rest @ ..] => Some((word, rest)),
     }
 }
 
-// Where the first space stands, or the end.
+// The place of the first space, or the end.
 fn word_len(text: &[u8]) -> usize
     ensures value { result ≡ position_or_len (λ byte. byte == 32) text.now }
     ensures within { result ≤ length text.now }

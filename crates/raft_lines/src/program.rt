@@ -268,7 +268,7 @@ fn answer_asked(
     answer_met(alloc, config, engine, met, line)
 }
 
-// .. over any files, but for a crash.
+// Carries out a line over any files, except a crash.
 fn answer_met<F: FileSystem + Drop>(
     alloc: Global,
     config: &Config,
@@ -322,7 +322,7 @@ fn answer_look<F: FileSystem>(alloc: Global, engine: &Engine<F>, look: &Look) ->
     }
 }
 
-// The indexes of a group's first and last entries, where it has entries.
+// The indexes of a group's first and last entries, if it has entries.
 fn range_of<F: FileSystem>(engine: &Engine<F>, group: u64) -> Option<(u64, u64)>
     ensures value { has_failed engine.now ≡ false
         → result ≡ range_of ((contents_of engine.now).entries group) }
@@ -404,7 +404,7 @@ fn answer_opening<F: FileSystem + Drop>(
     }
 }
 
-// What a crash leaves where it does the same to every file.
+// What a crash leaves that does the same to every file.
 fn crashed(
     alloc: Global,
     config: &Config,
@@ -431,7 +431,7 @@ fn choices_of(alloc: Global, count: usize, left: &CrashChoice) -> Result<Vec<Cho
     Ok(choices)
 }
 
-// How many files stand in the folders of the settings.
+// How many files are in the folders of the settings.
 fn count_files<F: FileSystem>(alloc: Global, config: &Config, files: &mut F) -> Result<usize, Fault>
     ensures unchanged { F.directory files.new ≡ F.directory files.old }
     ensures cause { IfErr result IsStorageOrMemory }
@@ -463,7 +463,7 @@ fn choice_of(left: &CrashChoice) -> Choice
     }
 }
 
-// The call's operation, done and answered as `run` does each of its own.
+// Does the call's operation, with its outcome, as `run` does each of its own.
 fn answer_call<F: FileSystem>(
     alloc: Global,
     engine: &mut Engine<F>,

@@ -18,6 +18,7 @@ use Rattle.raft_crash_laws.specs.Queues.{IsOpeningRefusal, LeavesReadableIn}
 use Rattle.raft_opening.proofs.OpenLemmas.{left_alone}
 use Rattle.raft_opening.specs.Folder.{LeavesAllButOpened}
 use Rattle.raft_opening.specs.Queue.{IsUntouched}
+use Rattle.raft_pipes.specs.Queue.{LeavesAll}
 use Rattle.raft_builder.specs.Builder.{CanBeOpenedIn}
 use Rattle.raft_queues.proofs.SameFilesLemmas.{readable_same}
 use Rattle.raft_log_engine.specs.Engine.{directory_of, moments_of, refusals_of}
@@ -57,6 +58,7 @@ module _ {F H R W : Type 0} {g : Ghosts F H R W} where
     any_moment = subst (λ (f : F). MovesBy g.directory g.moments g.refusals_of (StillRecovers (folders_in config)) found f) (sym why.1) (moves_none (λ m batches kept. kept));
     readable = subst (λ (f : F). MovesBy g.directory g.moments g.refusals_of (LeavesReadableIn (folders_in config)) found f) (sym why.1) (moves_none (λ queue. readable_same (folders_in config) queue (g.directory found) (g.directory found) (λ k path fits is. refl)));
     unchanged = subst (λ (e : Fault). IsUntouched (g.directory found) (g.directory r.file_system) e) (sym why.0) tt;
+    unread = inl (subst (λ (f : F). LeavesAll (g.directory found) (g.directory f)) (sym why.1) (λ path. refl));
     others = subst (λ (f : F). LeavesAllButOpened (folders_in config) (g.directory found) (g.directory f)) (sym why.1) (λ q none reserved. refl);
   }
 
@@ -75,6 +77,7 @@ module _ {F H R W : Type 0} {g : Ghosts F H R W} where
       any_moment = moves_none (λ m batches kept. kept);
       readable = moves_none (λ queue. readable_same (folders_in (sanitized config)) queue (g.directory found) (g.directory found) (λ k path fits is. refl));
       unchanged = left_alone (g.directory found) (g.directory found) why (λ path. refl);
+      unread = inl (λ path. refl);
       others = λ q none reserved. refl;
     };
     refused = inl against;
@@ -97,6 +100,7 @@ module _ {F H R W : Type 0} {g : Ghosts F H R W} where
           any_moment = moves_then_reads opens.opened.any_moment given;
           readable = moves_then_reads opens.opened.readable given;
           unchanged = subst (λ (f : Fault). IsUntouched (g.directory found) (g.directory files) f) (sym is) tt;
+          unread = inr opens.refused.1;
           others = subst (λ (n : Directory). LeavesAllButOpened (folders_in config) (g.directory found) n) (sym now) opens.opened.others;
         };
         refused = inr (subst (λ (f : Fault). IsOpeningRefusal config.recovery_mode (folders_in config) (g.directory found) (g.refusals_of found) (g.refusals_of files) f) (sym is) (Append, tt));

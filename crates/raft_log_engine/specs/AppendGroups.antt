@@ -1,4 +1,4 @@
--- What a rewriting of the next groups of the Append queue answers, and what it leaves.
+-- What a rewriting of the next groups of the Append queue returns, and what it leaves.
 use Rattle.std.specs.Prelude.{◌≡◌, ◌<◌, ◌&&◌, ℕ, min, true, false, nat_le, is_some, IfOk, OnErr, OnOk, Option, None, Some, Result}
 use Rattle.std.specs.List.Sorted.{IsStrictlySortedBy}
 use Rattle.std.specs.Option.{IfSome}
@@ -17,9 +17,7 @@ use Rattle.raft_log_engine.specs.Engine.{queue_of, rewrite_queue_of}
 use Rattle.raft_log_engine.specs.Purge.{LeavesNewFiles}
 use Rattle.raft_log_engine.specs.declared.engine.Engine.{Engine}
 
--- of the groups from this one on and before the next one, which is a known one, nothing stands in
--- the Append queue's files up to the watermark that may move. All others keep their places, and so
--- does what stands behind it
+-- groups from this one to the next have nothing left up to the watermark; others keep their places
 pub record HasRewrittenFrom (watermark from : ℕ) (next : Option ℕ) (t t' : Tables) : Type 0 where
   pub emptied : (group : ℕ) → (nat_le from group && comes_before next group) ≡ true
       → HasNoneToMove (Some watermark) (or_empty (t' group))
@@ -29,13 +27,12 @@ pub record HasRewrittenFrom (watermark from : ℕ) (next : Option ℕ) (t t' : T
   pub known : IfSome next (λ group. (from < group) × (is_some (t group) ≡ true))
 
 module _ {F H R W : Type 0} {g : Ghosts F H R W} where
-  -- up to the watermark, which is the last file at most: then the queue goes on to a next one. Both
-  -- queues begin as before. What is refused loses no file in which something stands
+  -- a rewriting of the next groups up to the watermark; both queues begin as before
   pub record RewritesGroups (watermark from budget : ℕ) (result : Result (Option ℕ) Fault)
       (old new : Engine F H R W g) : Type 0 where
     pub rewritten : IfOk result (λ next. HasRewrittenFrom (min watermark (last_seq (queue_of old))) from
         next (tables_of old.log.tables) (tables_of new.log.tables))
-    -- they, in ascending order, are as many as fit the budget
+    -- the groups, in ascending order, are as many as fit the budget
     pub fits : IfOk result (λ next. (x : NextGroups) × (x.next ≡ next)
         × IsStrictlySortedBy nat_cmp x.groups.items
         × AreNextGroups from (tables_of old.log.tables) x
@@ -44,6 +41,7 @@ module _ {F H R W : Type 0} {g : Ghosts F H R W} where
         (queue_of old) (queue_of new))
     pub append : OnOk result ((queue_of new).first ≡ (queue_of old).first)
     pub rewrite : OnOk result ((rewrite_queue_of new).first ≡ (rewrite_queue_of old).first)
+    -- a refused call has dropped only files that the tables don't refer to
     pub lost : OnErr result (HasLostFront None new.log.tables (queue_of old) (queue_of new))
     pub rounds : new.rounds ≡ old.rounds
     -- short calls of the Rewrite queue that were under way end with it

@@ -1,4 +1,4 @@
--- What `Engine` says of its calls that write and sync, once for all forms of a call.
+-- What the calls of `Engine` that write and sync promise, once for all forms of a call.
 use Rattle.std.specs.Prelude.{◌≡◌, ◌↔◌, ℕ, Bool, true, false, List, [], length, Result, Ok, Err, IfOk, IfErr, IsErrAnd, MatchResult, OnOk, OnErr, Vec, is_ok}
 use Rattle.std.specs.List.{AllByRecursion}
 use Rattle.std.specs.declared.alloc.Global.{Global}
@@ -23,7 +23,7 @@ use Rattle.raft_log_engine.specs.Write.{HasGoneOn, StandsWithRoom, TakesItems}
 use Rattle.raft_log_engine.specs.declared.engine.Engine.{Engine}
 
 module _ {F H R W : Type 0} {g : Ghosts F H R W} where
-  -- a write of a batch with these items, which has the rest after it
+  -- a write of a batch with these items, of which `rest` is left afterwards
   pub record IsWrite (items rest : Batch) (sync : Bool) (old new : Engine F H R W g)
       (result : Result ℕ Fault) : Type 0 where
     pub ok : IfOk result (HasWritten items rest old new)
@@ -44,10 +44,10 @@ module _ {F H R W : Type 0} {g : Ghosts F H R W} where
         → (sync ≡ false → (result ≡ Ok 0) × ChangesNoFile old new)
         × IfErr result (FailsCountedAt (NamesLog (folders_of old)) (refusals_of old)
         (refusals_of new))
-    -- of no items a refused sync fails it
+    -- if the batch has no items, a refused sync fails the engine
     pub halts : items ≡ [] → OnErr result (has_failed new ≡ true)
 
-  -- .. by a caller, who changes no group's number
+  -- a write of a caller's batch, which is refused if it changes a group's number
   pub record IsCallersWrite (items rest : Batch) (sync : Bool) (old new : Engine F H R W g)
       (result : Result ℕ Fault) : Type 0 where
     pub call : IsWrite items rest sync old new result
@@ -58,7 +58,7 @@ module _ {F H R W : Type 0} {g : Ghosts F H R W} where
         Advances (accepted_by result (written_batch part)) (covered_by result sync)
         (pending_of (contents_of old) part) (state_of old) (state_of new)
 
-  -- .. of several batches, so many with so many flags, of which one asks for a sync or none does
+  -- a write of several batches, each with a flag; `sync` says that some flag asks for a sync
   pub record IsGroupWrite (batches rest : List Batch) (count flags : ℕ) (sync : Bool)
       (old new : Engine F H R W g) (result : Result (Vec (Result ℕ Fault) Global) Fault)
       : Type 0 where
@@ -113,7 +113,7 @@ module _ {F H R W : Type 0} {g : Ghosts F H R W} where
     pub memory : has_failed old ≡ false → (contents_of old).entries group ≡ []
         → (result ≡ Ok 0) × ChangesNothing old new
 
-  -- a sync
+  -- a sync of the Append queue
   pub record IsSync (old new : Engine F H R W g) (result : Result (Unit {0}) Fault) : Type 0 where
     pub contents : (contents_of new ≡ contents_of old) × (queue_of new ≡ queue_of old)
     pub memory : memory_of new ≡ memory_of old

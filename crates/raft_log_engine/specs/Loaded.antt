@@ -9,13 +9,13 @@ use Rattle.raft_log_engine.specs.Engine.{directory_of, has_failed}
 use Rattle.raft_log_engine.specs.declared.engine.Engine.{Engine}
 
 module _ {F H R W : Type 0} {g : Ghosts F H R W} where
-  -- these bytes stand at a place of the block that was used last
+  -- these bytes are at a place of the block that was used last
   pub record IsLoaded (e : Engine F H R W g) (bytes : List ℕ) (place : EntryPlace) : Type 0 where
     pub stands : has_failed e ≡ false
     pub first : IsFirst place.block e.log.cache
     pub bytes_are : bytes_in (both_blocks_now e.log.store.pipes (directory_of e)) place ≡ bytes
 
-  -- .. those of the entry that was asked for, and no place where there is none
+  -- the place of the bytes of a requested entry, or none if there is no such entry
   abbrev pub IsLoadAnswer : Engine F H R W g → Option (List ℕ) → Option EntryPlace → Type 0
   IsLoadAnswer e None answer = answer ≡ None
   IsLoadAnswer e (Some bytes) None = ⊥

@@ -1,5 +1,6 @@
 -- When a queue's log files are to be rewritten.
-use Rattle.std.specs.Prelude.{◌+◌, ◌*◌, ◌-◌, ◌^◌, min, length, Bool, Option, Some, None, if◌then◌else◌}
+use Rattle.std.specs.Prelude.{◌+◌, ◌*◌, ◌-◌, ◌^◌, ℕ, min, length, Bool, Option, Some, None, if◌then◌else◌}
+use Rattle.std.specs.Option.{option_map}
 use Rattle.raft_base.specs.declared.pipe_log.LogQueue.{LogQueue}
 use Rattle.raft_base.specs.declared.pipe_log.LogQueue.TheVariants.{Append, Rewrite}
 use Rattle.raft_config.specs.Sanitized.{rewrite_threshold}
@@ -17,7 +18,7 @@ use Rattle.raft_tables.specs.Counters.{deleted_count, rewritten_count}
 use Rattle.raft_log_engine.specs.Engine.{queue_of, settings_of, target_size_of}
 use Rattle.raft_log_engine.specs.declared.engine.Engine.{Engine}
 
--- a queue is above its threshold, and of the Rewrite queue enough is garbage
+-- a queue is above its threshold, and the Rewrite queue has enough garbage too
 abbrev pub needs_rewrite : LogQueue → Config → QueueUse → RewrittenEntries → Bool
 needs_rewrite Append settings used entries = append_needs_rewrite used settings.purge_threshold
 needs_rewrite Rewrite settings used entries = rewrite_needs_rewrite used (rewrite_threshold settings)
@@ -35,8 +36,7 @@ module _ {F H R W : Type 0} {g : Ghosts F H R W} where
   rewritten_of e =
       record { rewritten = rewritten_count e.log.stats; deleted = deleted_count e.log.stats }
 
-  -- up to which file of the Append queue a purge by watermarks rewrites, and before which one a
-  -- group is old, where that is due
+  -- the watermarks of a purge of the Append queue, if it is due
   abbrev pub append_watermarks : Engine F H R W g → Option Watermarks
   append_watermarks e =
       let first = (queue_of e).first in
@@ -45,9 +45,13 @@ module _ {F H R W : Type 0} {g : Ghosts F H R W} where
       then Some (record { rewrite = rewrite_watermark first last; compact = compact_watermark first last })
       else None
 
-  -- what it rewrites
+  -- what a purge by watermarks rewrites
   abbrev pub needs_of : Engine F H R W g → Needs
   needs_of e = record {
     rewrite = needs_rewrite Rewrite (settings_of e) (use_of Rewrite e) (rewritten_of e);
     append = append_watermarks e;
   }
+
+  -- up to which file a purge by watermarks rewrites the Append queue, if that is due
+  abbrev pub append_rewrite_watermark : Engine F H R W g → Option ℕ
+  append_rewrite_watermark e = option_map (λ w. w.rewrite) (needs_of e).append

@@ -1,4 +1,4 @@
--- What a write that acts once makes of an engine.
+-- What a write that acts once does to an engine.
 use Rattle.std.specs.Prelude.{◌≡◌, ◌⊎◌, ◌↔◌, ℕ, Bool, true, false, List, [], Some, Result, Err, IfErr, IsErrAnd, MatchResult, if◌then◌else◌}
 use Rattle.raft_base.specs.Fault.{fault_code}
 use Rattle.raft_base.specs.declared.errors.Fault.{Fault}
@@ -15,21 +15,18 @@ use Rattle.raft_log_engine.specs.Durability.{StaysFailed, accepted_by, covered_b
 use Rattle.raft_log_engine.specs.Engine.{contents_of, has_failed}
 use Rattle.raft_log_engine.specs.declared.engine.Engine.{Engine}
 
--- why a caller's batch that changes a group's number isn't taken: for that, unless an item before
--- it doesn't fit
+-- why a caller's batch is refused: it changes a group's number, or an item before that doesn't fit
 abbrev pub IsNumberRefusal : Contents → Batch → Fault → Type 0
 IsNumberRefusal m items (fault.InvalidArgument text) = meets_number m items ≡ true
 IsNumberRefusal m items e = (meets_number m items ≡ false) × (batch_refusal m items ≡ Some e)
 
--- what it may write: the batch with its numbers, where each is greater than the one that its group
--- keeps, and else nothing
+-- what a call may write: the batch with its numbers if all are new, else nothing
 abbrev pub acting_batch : Contents → Batch → List Pair → Batch
 acting_batch m items pairs =
     if are_unfit pairs then [] else if has_numbers items then []
     else if are_new m pairs then numbered items pairs else []
 
--- why a batch with new numbers isn't written before any of it is: the first item that it may not
--- have changes a group's number, or doesn't fit; or it may be written, and memory is wanting
+-- why a batch with new numbers is refused before any of it is written: an item, or memory
 abbrev pub IsOnceRefusal : Contents → Batch → Fault → Type 0
 IsOnceRefusal m items (fault.InvalidArgument text) = meets_number m items ≡ true
 IsOnceRefusal m items fault.Gap =
@@ -40,21 +37,21 @@ IsOnceRefusal m items fault.Memory = (has_numbers items ≡ false) × IsValidBat
 IsOnceRefusal m items _ = ⊥
 
 module _ {F H R W : Type 0} {g : Ghosts F H R W} where
-  -- there are no numbers, or two of one group
+  -- refused: there are no numbers, or two of one group
   pub record IsUnfitOnce (pairs : List Pair) (old new : Engine F H R W g) (result : Result ℕ Fault)
       : Type 0 where
     pub unfit : are_unfit pairs ≡ true
     pub refused : IsErrAnd result (λ e. fault_code e ≡ 1)
     pub same : new ≡ old
 
-  -- none is greater than the one that its group keeps: it is answered as a write without items
+  -- no number is greater than the one that its group keeps: the call is a write without items
   pub record IsOldOnce (pairs : List Pair) (sync : Bool) (old new : Engine F H R W g)
       (result : Result ℕ Fault) : Type 0 where
     pub fit : are_unfit pairs ≡ false
     pub numbers : are_old (contents_of old) pairs ≡ true
     pub write : IsWrite [] [] sync old new result
 
-  -- some are, and others aren't
+  -- refused: some numbers are greater than those that their groups keep, and others aren't
   pub record IsStaleOnce (pairs : List Pair) (old new : Engine F H R W g) (result : Result ℕ Fault)
       : Type 0 where
     pub fit : are_unfit pairs ≡ false
@@ -63,7 +60,7 @@ module _ {F H R W : Type 0} {g : Ghosts F H R W} where
     pub refused : result ≡ Err fault.StaleNumber
     pub same : new ≡ old
 
-  -- each is, and the batch is refused before any of it is written
+  -- each number is new, and the batch is refused before any of it is written
   pub record IsRefusedOnce (items : Batch) (pairs : List Pair) (old new : Engine F H R W g)
       (result : Result ℕ Fault) : Type 0 where
     pub fit : are_unfit pairs ≡ false
@@ -71,7 +68,7 @@ module _ {F H R W : Type 0} {g : Ghosts F H R W} where
     pub cause : IsErrAnd result (IsOnceRefusal (contents_of old) items)
     pub same : new ≡ old
 
-  -- each is, and a copy of the batch is written with the numbers behind its items
+  -- each number is new, and a copy of the batch is written with the numbers after its items
   pub record IsActingOnce (items : Batch) (pairs : List Pair) (sync : Bool)
       (old new : Engine F H R W g) (result : Result ℕ Fault) : Type 0 where
     pub fit : are_unfit pairs ≡ false
@@ -82,7 +79,7 @@ module _ {F H R W : Type 0} {g : Ghosts F H R W} where
     pub write : IsWrite (numbered items pairs) copied sync old new result
     pub taken : IfErr result (λ e. fault_code e ≡ 1 → ⊥)
 
-  -- a write of a batch with these items and numbers, which has the rest after it
+  -- a write of a batch with these items and numbers, of which `rest` is left afterwards
   pub record IsWriteOnce (items rest : Batch) (pairs : List Pair) (sync : Bool)
       (old new : Engine F H R W g) (result : Result ℕ Fault) : Type 0 where
     pub answer :

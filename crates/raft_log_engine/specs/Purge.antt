@@ -41,13 +41,13 @@ use Rattle.raft_log_engine.specs.declared.engine.Engine.{Engine}
 use Rattle.raft_log_engine.specs.declared.engine.purge_kind.Purge.{Purge}
 use Rattle.raft_log_engine.specs.declared.engine.purge_kind.Purge.TheVariants.{RewriteAppend, RewriteGroups, RewriteRewrite, RenewGroups, DropStale, DropExpired}
 
--- the queue of which a purge answers
+-- the queue whose dropped files a purge counts
 abbrev pub queue_freed : Purge → LogQueue
 queue_freed RewriteRewrite = Rewrite
 queue_freed (RenewGroups x) = Rewrite
 queue_freed _ = Append
 
--- so many files left it
+-- the purge dropped this many files of that queue
 abbrev pub HasFreed : Purge → DualState → DualState → ℕ → Type 0
 HasFreed purge d d' count = let queue = queue_freed purge in
     (pipe_of queue d).first + count ≡ (pipe_of queue d').first
@@ -61,15 +61,12 @@ rests_of (RenewGroups x) = 1
 rests_of DropStale = 0
 rests_of (DropExpired x) = 2
 
--- where the batches of each atomic group stand together, none of the queue's files is left, else
--- all are
+-- the queue has none of its old files if atomic groups are adjacent, else all
 pub record HasRenewed (together : Bool) (p p' : PipeState) : Type 0 where
   pub gone : together ≡ true → p'.first ≡ suc (last_seq p)
   pub kept : together ≡ false → p'.first ≡ p.first
 
--- each queue went on to a next file. The Append queue begins with the first file in which one of
--- the tables' entries or values stands, or its last, and the Rewrite queue lost its old files or
--- none
+-- both queues have a next file; unreferenced Append files are gone, and old Rewrite files may be
 pub record HasDroppedStale (together : Bool) (m : MemTables) (append rewrite append' rewrite' : PipeState)
     : Type 0 where
   pub last : last_seq append' ≡ suc (last_seq append)
@@ -77,9 +74,7 @@ pub record HasDroppedStale (together : Bool) (m : MemTables) (append rewrite app
       ≡ max append.first (first_of_tables Append (suc (last_seq append)) m)
   pub old : HasDroppedOld together m rewrite rewrite'
 
--- of these groups, and of those of which nothing stood there, nothing stands in the Rewrite queue's
--- files before the first new one; behind the last ones the old files go, if they may, and none
--- before
+-- these groups have nothing in old files; after the last groups, and only then, old files may go
 pub record HasRenewedGroups (x : RenewalPart) (together : Bool) (m m' : MemTables) (p p' : PipeState)
     : Type 0 where
   pub emptied : AreRenewed (first_new x.files p) x (tables_of m) (tables_of m')
@@ -105,7 +100,7 @@ HasPurged DropStale together m m' append rewrite append' rewrite' =
 HasPurged (DropExpired x) together m m' append rewrite append' rewrite' =
     HasDroppedExpired x together m' append rewrite append' rewrite'
 
--- where the queue of which a purge answers begins once that was refused
+-- the most that a refused purge has dropped of its queue
 abbrev pub HasLostSome : Purge → MemTables → PipeState → PipeState → PipeState → PipeState → Type 0
 HasLostSome (RewriteAppend scope) m append rewrite append' rewrite' = HasLostFront None m append append'
 HasLostSome (RewriteGroups x) m append rewrite append' rewrite' = HasLostFront None m append append'
@@ -117,19 +112,18 @@ HasLostSome DropStale m append rewrite append' rewrite' = HasLostFront None m ap
 HasLostSome (DropExpired x) m append rewrite append' rewrite' =
     HasLostFront (Some x.barrier) m append append'
 
--- where only the Append queue is rewritten, groups that aren't keep their places
+-- if only the Append queue is rewritten, other groups than the named ones keep their places
 abbrev pub KeepsOtherGroups : Purge → Tables → Tables → Type 0
 KeepsOtherGroups (RewriteGroups x) t t' = KeepsOthers x.groups.items t t'
 KeepsOtherGroups (DropExpired x) t t' = x.renews ≡ false → KeepsOthers x.groups.items t t'
 KeepsOtherGroups _ t t' = Unit {0}
 
--- there is nothing to be rewritten
+-- the purge has nothing to rewrite
 abbrev pub IsIdlePurge : Purge → Type 0
 IsIdlePurge (DropExpired x) = IsIdle x
 IsIdlePurge _ = ⊥
 
--- what stands behind the watermark of a rewriting of the Append queue isn't moved, and by one of
--- the Rewrite queue nothing that stands in the Append queue
+-- nothing moves after the watermark of the Append queue; a renewal moves nothing in that queue
 abbrev pub LeavesBehind : Purge → PipeState → Tables → Tables → Type 0
 LeavesBehind (RewriteAppend scope) append t t' =
     MovesOnly (Some (watermark_in scope (last_seq append))) t t'
@@ -139,49 +133,49 @@ LeavesBehind (RenewGroups x) append t t' = MovesOnly None t t'
 LeavesBehind (DropExpired x) append t t' = MovesDue x.renews x.watermark t t'
 LeavesBehind _ append t t' = Unit {0}
 
--- only the Rewrite queue is rewritten: it counts anew what left it
+-- the purge ends a renewal and rewrites nothing else, so the counters start again at 0
 abbrev pub RewritesOnlyRewrite : Purge → Type 0
 RewritesOnlyRewrite RewriteRewrite = Unit {0}
 RewritesOnlyRewrite (RenewGroups x) = x.is_last ≡ true
 RewritesOnlyRewrite (DropExpired x) = (x.renews ≡ true) × (x.watermark ≡ None)
 RewritesOnlyRewrite _ = ⊥
 
--- a rewriting of the Rewrite queue may leave an atomic group there that isn't ended, no other purge
+-- the Rewrite queue ends with an open atomic group, and the purge may be a renewal
 abbrev pub MayLeaveOpen : Purge → DualState → Directory → Type 0
 MayLeaveOpen RewriteRewrite d n = EndsOpen d n
 MayLeaveOpen (RenewGroups x) d n = EndsOpen d n
 MayLeaveOpen (DropExpired x) d n = EndsOpen d n
 MayLeaveOpen _ d n = ⊥
 
--- it alone may need an id for an atomic group where none is left
+-- no id is left for an atomic group, and the purge may be a renewal
 abbrev pub MayLackId : Purge → GroupsMet → Type 0
 MayLackId RewriteRewrite groups = ids_bound groups.ids ≡ 2 ^ 64
 MayLackId (RenewGroups x) groups = ids_bound groups.ids ≡ 2 ^ 64
 MayLackId (DropExpired x) groups = ids_bound groups.ids ≡ 2 ^ 64
 MayLackId _ groups = ⊥
 
--- short calls of the Rewrite queue go on with these new files of it, if there are some
+-- short calls of a renewal continue with these new files, if there are some
 abbrev pub GoesOnFrom : Purge → Option NewFiles → Type 0
 GoesOnFrom (RenewGroups x) files = x.files ≡ files
 GoesOnFrom _ files = Unit {0}
 
--- .. which stand then as they have to
+-- the new files that short calls of a renewal continue with are as they have to be
 abbrev pub GoesOnIf : Purge → DualState → Tables → KnownGroups → Directory → Type 0
 GoesOnIf (RenewGroups x) d t met n = MayGoOnWith x.files d t met n
 GoesOnIf _ d t met n = Unit {0}
 
--- the new files behind a purge, where short calls begin with these: none behind any other purge
+-- the new files after a purge, if short calls begin with these: none after any other purge
 abbrev pub files_behind : Purge → NewFiles → Option NewFiles
 files_behind (RenewGroups x) next = files_behind_part x next
 files_behind _ next = None
 
--- a purge that is answered leaves these new files, and one that is refused those before it or none
+-- `Ok` leaves these new files; `Err` leaves those from before the call, or none
 abbrev pub LeavesNewFiles : {T : Type 0} → Result T Fault → Option NewFiles → Option NewFiles
     → Option NewFiles → Type 0
 LeavesNewFiles result behind old new =
     MatchResult result (λ x. new ≡ behind) (λ e. (new ≡ None) ⊎ (new ≡ old))
 
--- why the steps of a purge fail
+-- why the steps of a purge fail: IsAtomicRefusal or HasNoId if it may renew, else IsPurgeRefusal
 abbrev pub IsRunRefusal : Purge → GroupsMet → DualState → DualState → Directory → Refusals → Refusals
     → (Fault → Type 0) → StepFault → Type 0
 IsRunRefusal RewriteRewrite groups d d' n' old new U f =
@@ -192,15 +186,12 @@ IsRunRefusal (DropExpired x) groups d d' n' old new U f =
     IsAtomicRefusal d d' n' old new (λ e. HasNoId groups e ⊎ U e) f
 IsRunRefusal _ groups d d' n' old new U f = IsPurgeRefusal d d' n' old new U f
 
--- what fails an engine in a purge: an atomic group stands open, or a call failed that was to change
--- the last file of a queue or to make the next one, and no other, as a read or a delete
+-- what fails an engine in a purge: IsByChange; or any fault while an atomic group is open
 abbrev pub IsFailureCause : Type 0 → DualState → Directory → Refusals → Refusals → Fault → Type 0
 IsFailureCause ends_open d n old new e = ends_open ⊎ IsByChange d n old new e
 
--- why a purge of a log with these contents fails, in these folders: by a call on its files or for
--- lack of memory; where no number is left for a next log file of a queue, or what is to be written
--- again has no record, or it can't be marked, which fails no engine unless it leaves an atomic
--- group open; and for want of space, which fails one and is to be tried again
+-- why a purge fails: a call on the log, memory, no number left, data or marks without a record, an
+-- internal key with a value, or lack of space (`TryAgain`); the last one always fails the engine
 abbrev pub IsPurgeFault : Contents → PipeState → PipeState → Type 0 → Type 0 → Folders → Bool
     → Refusals → Refusals → Fault → Type 0
 IsPurgeFault x append rewrite ends_open unmarked folders fails old new fault.Range =
@@ -213,20 +204,19 @@ IsPurgeFault x append rewrite ends_open unmarked folders fails old new fault.Try
 IsPurgeFault x append rewrite ends_open unmarked folders fails old new e =
     FailsAt (NamesLog folders) old new e
 
--- what a purge leaves of both queues' files, and what it moves and counts. What is refused has lost
--- those files at most
+-- what a purge leaves of both queues' files, and what it moves and counts
 pub record Frees {E : Type 0} (purge : Purge) (result : Result ℕ E) (m m' : MemTables)
     (stats stats' : GlobalStats) (groups groups' : GroupsMet) (d d' : DualState) : Type 0 where
   pub files : OnOk result
       (HasPurged purge groups.together m m' d.append d.rewrite d'.append d'.rewrite)
+  -- a refused purge has dropped at most what HasLostSome says
   pub first : OnErr result (HasLostSome purge m' d.append d.rewrite d'.append d'.rewrite)
   pub append : queue_freed purge ≡ Rewrite → d'.append ≡ d.append
   pub tables : OnOk result (LeavesBehind purge d.append (tables_of m) (tables_of m'))
   pub apart : OnOk result (KeepsOtherGroups purge (tables_of m) (tables_of m'))
   pub idle : OnOk result
       (IsIdlePurge purge → (d' ≡ d) × (m' ≡ m) × (stats' ≡ stats) × (groups' ≡ groups))
-  -- a rewriting of the Rewrite queue counts anew, and a drop of stale files moves and counts
-  -- nothing
+  -- a renewal starts its counters again at 0, and a drop of stale files moves and counts nothing
   pub counted : RewritesOnlyRewrite purge → OnOk result (deleted_count stats' ≡ 0)
   pub stale : purge ≡ DropStale → (m' ≡ m) × (stats' ≡ stats) × (groups' ≡ groups)
 
@@ -235,7 +225,7 @@ module _ {F H R W : Type 0} {g : Ghosts F H R W} where
   abbrev pub tables_in : Engine F H R W g → MemTables
   tables_in e = e.log.tables
 
-  -- the Rewrite queue of an engine ends with an atomic group that isn't ended
+  -- the Rewrite queue of an engine ends with an open atomic group
   abbrev pub HasOpenGroup : Engine F H R W g → Type 0
   HasOpenGroup e = EndsOpen e.log.store.pipes (directory_of e)
 
@@ -243,18 +233,18 @@ module _ {F H R W : Type 0} {g : Ghosts F H R W} where
   abbrev pub HasLastId : Engine F H R W g → Type 0
   HasLastId e = ids_bound e.log.groups.ids ≡ 2 ^ 64
 
-  -- the new files of short calls of the Rewrite queue that begin now
+  -- the new files of a renewal in short calls that begins now
   abbrev pub next_files : Engine F H R W g → NewFiles
   next_files e = files_new None e.log.store.pipes.rewrite e.log.groups
 
-  -- the same of an engine after a purge
+  -- MayLeaveOpen, for an engine after a purge
   abbrev pub LeavesOpen : Purge → Engine F H R W g → Type 0
   LeavesOpen purge e = MayLeaveOpen purge e.log.store.pipes (directory_of e)
 
-  -- no id is left for an atomic group after a purge that writes some
+  -- MayLackId, for an engine after a purge
   abbrev pub LacksId : Purge → Engine F H R W g → Type 0
   LacksId purge e = MayLackId purge e.log.groups
 
-  -- the marks that an engine owed have no record, as they stand by its tables after a call
+  -- some marks that an engine owed are too long for a record, by its tables after a call
   abbrev pub OwesTooMuch : Engine F H R W g → Engine F H R W g → Type 0
   OwesTooMuch old new = HaveOwedNoRecord (tables_of new.log.tables) (owed_of old.log.owed) fault.Range

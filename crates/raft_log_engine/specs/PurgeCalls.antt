@@ -1,6 +1,5 @@
--- What the purges of an engine make of it, each of them once, with listeners and without.
+-- What the purges of an engine do to it, with listeners and without.
 use Rattle.std.specs.Prelude.{◌≡◌, ◌↔◌, ◌⊎◌, ℕ, true, false, [], Err, IfErr, IfOk, None, OnErr, OnOk, Option, Result, Some, Vec, is_ok}
-use Rattle.std.specs.Option.{option_map}
 use Rattle.std.specs.List.Sorted.{IsStrictlySortedBy}
 use Rattle.std.specs.Ordering.{nat_cmp}
 use Rattle.std.specs.declared.alloc.Global.{Global}
@@ -21,16 +20,14 @@ use Rattle.raft_log_engine.specs.Durability.{Progresses, StaysFailed, durability
 use Rattle.raft_log_engine.specs.Engine.{contents_of, directory_of, durable_of, folders_of, has_failed, queue_of, refusals_of, rewrite_queue_of, spans_of, unsynced_of}
 use Rattle.raft_log_engine.specs.Events.{AreRecordsCut, HearsPurge}
 use Rattle.raft_log_engine.specs.Expired.{AsksBarrier, HasPurgedExpired}
-use Rattle.raft_log_engine.specs.Need.{needs_of}
+use Rattle.raft_log_engine.specs.Need.{append_rewrite_watermark, needs_of}
 use Rattle.raft_log_engine.specs.Purge.{Frees, HasFreed, HasLastId, HasOpenGroup, IsFailureCause, IsPurgeFault, LacksId, LeavesNewFiles, LeavesOpen, OwesTooMuch, files_behind, next_files, queue_freed}
 use Rattle.raft_log_engine.specs.declared.engine.Engine.{Engine}
 use Rattle.raft_log_engine.specs.declared.engine.purge_kind.Purge.{Purge}
 use Rattle.raft_log_engine.specs.declared.engine.purge_kind.Purge.TheVariants.{DropStale, RewriteAppend, RewriteRewrite}
 
 module _ {F H R W : Type 0} {g : Ghosts F H R W} where
-  -- each purge, which answers of this queue, and where that may be leaves an atomic group open, or
-  -- lacks an id for one: after `Ok` a crash leaves all contents, at any moment what it could leave
-  -- before. The queue loses no file where the engine fails
+  -- each purge keeps all contents; a crash at any moment leaves what it could leave before
   pub record PurgesLog {T : Type 0} (queue : LogQueue) (ends_open no_id : Type 0)
       (result : Result T Fault) (old new : Engine F H R W g) : Type 0 where
     pub contents : contents_of new ≡ contents_of old
@@ -38,6 +35,7 @@ module _ {F H R W : Type 0} {g : Ghosts F H R W} where
     pub any_moment : StaysWithin (LeavesAllowed (folders_of old) (durable_of old) (unsynced_of old))
         (state_of old) (state_of new)
     pub others : ChangesOnlyItsLog (state_of old) (state_of new)
+    -- if the engine fails in it, the queue has dropped no file
     pub front :
         has_failed old ≡ false → has_failed new ≡ true → KeepsFront queue old.log.store.pipes new.log.store.pipes
     pub path :
@@ -48,14 +46,14 @@ module _ {F H R W : Type 0} {g : Ghosts F H R W} where
         (rewrite_queue_of new) ends_open (no_id ⊎ OwesTooMuch old new) (folders_of old)
         (has_failed new) (refusals_of old) (refusals_of new))
 
-  -- which files it leaves, how many it answers, and what it moves; it counts no rounds
+  -- the files that a purge leaves, the number that it returns, what it moves; the rounds stay
   pub record FreesFiles (purge : Purge) (result : Result ℕ Fault) (old new : Engine F H R W g)
       : Type 0 where
     pub value : IfOk result (HasFreed purge old.log.store.pipes new.log.store.pipes)
     pub freed : Frees purge result old.log.tables new.log.tables old.log.stats new.log.stats old.log.groups new.log.groups
         old.log.store.pipes new.log.store.pipes
     pub rounds : new.rounds ≡ old.rounds
-    -- short calls that were under way end with it, unless it is the next one of them, or refused
+    -- short calls that were under way end, unless it is the next one of them, or refused
     pub renewal :
         LeavesNewFiles result (files_behind purge (next_files old)) old.renewal new.renewal
 
@@ -67,21 +65,21 @@ module _ {F H R W : Type 0} {g : Ghosts F H R W} where
     pub failed : (result ≡ Err fault.Failed) ↔ (has_failed old ≡ true)
     pub unchanged : has_failed old ≡ true → StaysFailed old new
 
-  -- .. each for whoever can't name a kind of purge
+  -- IsPurge, of a rewriting of the Append queue, for callers that can't name a kind of purge
   abbrev pub IsAppendRewrite : Option ℕ → Option ℕ → Engine F H R W g → Engine F H R W g
       → Result ℕ Fault → Type 0
   IsAppendRewrite watermark step old new result =
       IsPurge (RewriteAppend (record { watermark = watermark; step = step })) old new result
 
-  -- a call rewrote the Rewrite queue
+  -- IsPurge, of a rewriting of the Rewrite queue
   abbrev pub IsRewriteRewrite : Engine F H R W g → Engine F H R W g → Result ℕ Fault → Type 0
   IsRewriteRewrite old new result = IsPurge RewriteRewrite old new result
 
-  -- a call dropped the files in which nothing is left
+  -- IsPurge, of a drop of the files in which nothing is left
   abbrev pub IsStalePurge : Engine F H R W g → Engine F H R W g → Result ℕ Fault → Type 0
   IsStalePurge old new result = IsPurge DropStale old new result
 
-  -- the same of a purge by watermarks with this barrier, which counts rounds where it is answered
+  -- what a purge by watermarks with this barrier returns and moves; after `Ok` it counts rounds
   pub record FreesExpired (barrier : ℕ) (result : Result (Vec ℕ Global) Fault)
       (old new : Engine F H R W g) : Type 0 where
     pub value : IfOk result (λ asked. HasPurgedExpired barrier old new asked.items)
@@ -90,12 +88,10 @@ module _ {F H R W : Type 0} {g : Ghosts F H R W} where
     -- short calls that were under way end with it
     pub renewal : LeavesNewFiles result None old.renewal new.renewal
     pub first : OnErr result (HasLostFront (Some barrier) new.log.tables (queue_of old) (queue_of new))
-    -- what stands in the Rewrite queue moves where that was due, then what stands up to the
-    -- watermark of the Append queue where that was; where only the Rewrite queue was, it counts
-    -- anew what left it
-    pub moved : OnOk result (MovesDue (needs_of old).rewrite
-        (option_map (λ w. w.rewrite) (needs_of old).append) (tables_of old.log.tables)
-        (tables_of new.log.tables))
+    -- places change by a renewal if that is due, then up to the watermark if that is due
+    pub moved : OnOk result (MovesDue (needs_of old).rewrite (append_rewrite_watermark old)
+        (tables_of old.log.tables) (tables_of new.log.tables))
+    -- a renewal without a rewriting of the Append queue starts its counters again at 0
     pub counted : OnOk result ((needs_of old).rewrite ≡ true → (needs_of old).append ≡ None
         → deleted_count new.log.stats ≡ 0)
 
@@ -107,15 +103,14 @@ module _ {F H R W : Type 0} {g : Ghosts F H R W} where
     pub failed : (result ≡ Err fault.Failed) ↔ (has_failed old ≡ true)
     pub unchanged : has_failed old ≡ true → StaysFailed old new
 
-  -- what listeners hear of a purge of which all batches but so many are full, unless the engine
-  -- fails in it; nothing of an engine that had failed
+  -- what listeners hear of a purge, unless the engine fails in it; nothing if it had failed
   pub record HearsOfPurge {T : Type 0} (rests : ℕ) (result : Result T Fault)
       (old new : Engine F H R W g) (heard heard' : Heard) : Type 0 where
     pub told : has_failed new ≡ false → HearsPurge (λ records. OnOk result (AreRecordsCut rests records))
         (spans_of old) (spans_of new) heard heard'
     pub silent : has_failed old ≡ true → HasHeard [] heard heard'
 
-  -- they are asked for the barrier, and hear of the purge with it
+  -- listeners are asked for the barrier, and hear of the purge with it
   pub record HearsExpired (result : Result (Vec ℕ Global) Fault) (old new : Engine F H R W g)
       (heard heard' : Heard) : Type 0 where
     pub barrier : ℕ

@@ -16,14 +16,14 @@ use Rattle.raft_purge_steps.specs.declared.fault.StepFault.{StepFault}
 use Rattle.raft_log_engine.specs.Purge.{IsRunRefusal, rests_of}
 use Rattle.raft_log_engine.specs.declared.engine.purge_kind.Purge.{Purge}
 
--- why they fail: also where marks that are owed, with such tables, have no record
+-- why the steps of a purge fail: IsRunRefusal, or owed marks have no record
 abbrev pub IsStepsRefusal : Purge → Tables → Owed → GroupsMet → DualState → DualState → Directory
     → Refusals → Refusals → (Fault → Type 0) → StepFault → Type 0
 IsStepsRefusal purge t owed groups d d' n' old new IsUnfit =
     IsRunRefusal purge groups d d' n' old new (λ e. HaveOwedNoRecord t owed e ⊎ IsUnfit e)
 
 module _ {L : Type 0} {g : Ghosts L} where
-  -- where no batch was written before, all that the purge writes but so many are full
+  -- all batches that a purge writes are full, except as many as rests_of says
   abbrev pub AddsRestsOf : Purge → PurgeEvents L g → PurgeEvents L g → Type 0
   AddsRestsOf purge old new =
       written_in old ≡ [] → AreCut (rests_of purge) 0 (written_in new)

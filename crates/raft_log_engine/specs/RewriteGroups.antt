@@ -1,4 +1,4 @@
--- What a rewriting of the next groups of the Rewrite queue answers, and what it leaves.
+-- What a rewriting of the next groups of the Rewrite queue returns, and what it leaves.
 use Rattle.std.specs.Prelude.{◌≡◌, ◌<◌, ◌⊎◌, ◌&&◌, ℕ, Bool, true, nat_le, is_some, IfOk, OnErr, Option, None, Some, Result, MatchResult, if◌then◌else◌}
 use Rattle.std.specs.List.Sorted.{IsStrictlySortedBy}
 use Rattle.std.specs.Option.{IfSome}
@@ -19,9 +19,7 @@ use Rattle.raft_tables.specs.declared.memtables.MemTables.{MemTables}
 use Rattle.raft_log_engine.specs.Engine.{has_groups_together, queue_of, rewrite_queue_of}
 use Rattle.raft_log_engine.specs.declared.engine.Engine.{Engine}
 
--- of the groups from this one on and before the next one, which is a known one, nothing stands in
--- the Rewrite queue's files before the first new one, nor of those of which nothing stood there.
--- What stands in the Append queue keeps its place
+-- groups from this one up to the next have nothing in old files, nor do groups that had nothing there
 pub record HasRenewedFrom (first from : ℕ) (next : Option ℕ) (t t' : Tables) : Type 0 where
   pub emptied : (group : ℕ)
       → ((nat_le from group && comes_before next group) ≡ true) ⊎ IsAllFrom first (or_empty (t group))
@@ -29,30 +27,26 @@ pub record HasRenewedFrom (first from : ℕ) (next : Option ℕ) (t t' : Tables)
   pub only : MovesOnly None t t'
   pub known : IfSome next (λ group. (from < group) × (is_some (t group) ≡ true))
 
--- with which file the Rewrite queue begins then: while groups follow as before; behind the last
--- ones the old files go, all together, where nothing stands in any and the batches of each atomic
--- group stand together
+-- the Rewrite queue's first file: as before while groups follow, and then first_kept
 abbrev pub first_left : ℕ → Bool → Option ℕ → MemTables → PipeState → ℕ
 first_left first together (Some next) m p = p.first
 first_left first together None m p = first_kept first together m p
 
 module _ {F H R W : Type 0} {g : Ghosts F H R W} where
-  -- the first of the new files, and with it what was known of the atomic groups before: those of
-  -- the short calls that are under way, or of some that begin now
+  -- the first new file of a renewal in short calls, which is under way or begins now
   abbrev pub first_new : Engine F H R W g → ℕ
   first_new e = first_new_of e.renewal (rewrite_queue_of e)
 
-  -- the new files of those short calls
+  -- the new files of that renewal, with what was known of atomic groups before
   abbrev pub files_new : Engine F H R W g → NewFiles
   files_new e = files_new_of e.renewal (rewrite_queue_of e) e.log.groups
 
-  -- the short calls go on while groups follow, and end behind the last ones; one that is refused
-  -- may end them. The Append queue is as it was
+  -- short calls of a renewal continue while groups follow, and end after the last ones
   pub record RenewsGroups (from budget : ℕ) (result : Result (Option ℕ) Fault)
       (old new : Engine F H R W g) : Type 0 where
     pub renewed : IfOk result (λ next. HasRenewedFrom (first_new old) from next
         (tables_of old.log.tables) (tables_of new.log.tables))
-    -- they, in ascending order, are as many as fit the budget
+    -- the groups, in ascending order, are as many as fit the budget
     pub fits : IfOk result (λ next. (x : NextGroups) × (x.next ≡ next)
         × IsStrictlySortedBy nat_cmp x.groups.items
         × AreNextGroups from (tables_of old.log.tables) x × FitBudget budget None old.log.tables x)
@@ -61,13 +55,13 @@ module _ {F H R W : Type 0} {g : Ghosts F H R W} where
         (λ e. (new.renewal ≡ None) ⊎ (new.renewal ≡ old.renewal))
     pub rewrite : IfOk result (λ next. (rewrite_queue_of new).first
         ≡ first_left (first_new old) (has_groups_together old) next new.log.tables (rewrite_queue_of old))
-    -- so where the calls of a series left nothing in any of the old files, these are gone
+    -- if the calls of a series left nothing in the old files, these are gone
     pub gone : IfOk result (λ next. next ≡ None → has_groups_together old ≡ true
         → ((group : ℕ) → IsAllFrom (first_new old) (or_empty (tables_of new.log.tables group)))
         → (rewrite_queue_of new).first ≡ first_new old)
     pub append : queue_of new ≡ queue_of old
     pub lost : OnErr result (HasDroppedSome (first_new old) new.log.tables
         (rewrite_queue_of old) (rewrite_queue_of new))
-    -- behind the last ones it counts anew what left the queue
+    -- after the last groups the counters of rewritten entries start again at 0
     pub counted : IfOk result (λ next. next ≡ None → deleted_count new.log.stats ≡ 0)
     pub rounds : new.rounds ≡ old.rounds

@@ -1,4 +1,4 @@
--- The keys and values that a scan hands to its callback.
+-- The keys and values that a scan passes to its callback.
 use Rattle.std.specs.Prelude.{◌≡◌, ◌⊎◌, ℕ, Bool, true, false, List, [], ◌∷◌, reverse, Option}
 use Rattle.std.specs.Borrow.{Bor}
 use Rattle.std.specs.Fn.{Called}
@@ -14,31 +14,31 @@ IsScan m group start end false pairs = IsListing (value_between start end (m.val
 IsScan m group start end true pairs =
     IsListing (value_between start end (m.value group)) (reverse pairs)
 
--- What a callback is called with: `called f key value answer next` says that a call of f at these
--- answers so and leaves it as `next`.
+-- How a callback is called: `called f key value answer next` says that a call of f with these
+-- returns this answer and leaves it as `next`.
 
--- the pairs are handed over one after the other, until an answer is false
+-- the pairs are passed one after the other, until the callback returns false
 abbrev pub AreHandedOver : {F V : Type 0} → (F → List ℕ → V → Bool → F → Type 0) → F
     → List (List ℕ × V) → F → Type 0
 AreHandedOver called f [] last = last ≡ f
 AreHandedOver {F} called f (p ∷ ps) last = called f p.0 p.1 false last
     ⊎ ((next : F) × called f p.0 p.1 true next × AreHandedOver called next ps last)
 
--- some first ones are, and each answer is true
+-- some first ones of the pairs are passed, and the callback returns true each time
 abbrev pub AreBegun : {F V : Type 0} → (F → List ℕ → V → Bool → F → Type 0) → F
     → List (List ℕ × V) → F → Type 0
 AreBegun called f [] last = last ≡ f
 AreBegun {F} called f (p ∷ ps) last = (last ≡ f)
     ⊎ ((next : F) × called f p.0 p.1 true next × AreBegun called next ps last)
 
--- a group's pairs between two bounds are handed over
+-- a group's pairs between two bounds are passed to the callback
 pub record IsScanned {F : Type 0} (called : F → List ℕ → List ℕ → Bool → F → Type 0) (m : Contents)
     (group : ℕ) (start end : Option (List ℕ)) (reversed : Bool) (f last : F) : Type 0 where
   pub pairs : List (List ℕ × List ℕ)
   pub scan : IsScan m group start end reversed pairs
   pub handed : AreHandedOver called f pairs last
 
--- some first ones of them are
+-- some first ones of a group's pairs between two bounds are passed to the callback
 pub record IsScanBegun {F : Type 0} (called : F → List ℕ → List ℕ → Bool → F → Type 0)
     (m : Contents) (group : ℕ) (start end : Option (List ℕ)) (reversed : Bool) (f last : F)
     : Type 0 where
@@ -46,14 +46,14 @@ pub record IsScanBegun {F : Type 0} (called : F → List ℕ → List ℕ → Bo
   pub scan : IsScan m group start end reversed pairs
   pub handed : AreBegun called f pairs last
 
--- a call at a `&` to a key, and at a message
+-- a call with a `&` to a key, and with a message
 pub record CalledAtKey {F M : Type 0} (g : Mut F (Bor (List ℕ) × (M × Unit {0})) Bool) (f : F)
     (key : List ℕ) (message : M) (answer : Bool) (next : F) : Type 0 where
   pub shown : Bor (List ℕ)
   pub shows : shown.now ≡ key
   pub called : Called g f (shown, (message, tt)) answer next
 
--- what is read of the value at a key is handed over; a value that is no message is passed over
+-- the value at a key is parsed and passed; a value that is no message is skipped
 abbrev pub HandsMessage : {F M : Type 0} → (List ℕ → M → Type 0)
     → (F → List ℕ → M → Bool → F → Type 0) → F → List ℕ → List ℕ → Bool → F → Type 0
 HandsMessage {F} {M} is_parsed called f key value answer next =

@@ -85,8 +85,8 @@ pub fn an_engine_recovers_what_it_keeps<F: FileSystem>(engine: &Engine<F>)
 
 /// The premise on damage can be met for an engine that hasn't failed, under these conditions. Its
 /// opening found no record of a failed call in the log: this is so after a crash, if there was no
-/// log, and after a `close` or `reopen` of an engine of which it is true. Of the log's calls, also
-/// those before the opening, only writes failed. Nothing decodes that a last log file held when it
+/// log, and after a `close` or `reopen` of an engine of which it is true. Only writes failed among
+/// the log's calls, also before the opening. Nothing decodes that a last log file held when it
 /// was renamed. Then the damage of a crash is detectable that leaves every file with all its bytes
 /// now, or with those of its last sync (`AreConsistent`: always so in memory).
 pub fn the_damage_of_an_engine_is_detectable<F: FileSystem>(engine: &Engine<F>)

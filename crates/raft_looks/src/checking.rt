@@ -13,7 +13,8 @@ use raft_records::Fault;
 use std::alloc::Global;
 
 /// Prints a line for each file, the plan of an opening in the options' mode, and what an opening in
-/// each mode would do; none if a file is gone meanwhile.
+/// each mode would do; none if a file is gone meanwhile. If a file cannot be read, it prints the
+/// plan alone.
 pub fn check(
     alloc: Global,
     folder: &Folder,
@@ -21,8 +22,14 @@ pub fn check(
     progress: &mut Progress,
     out: &mut Output,
 ) -> Result<Option<Status>> {
-    let Some(queues) = folder.inspect_both(progress)? else {
-        return Ok(None);
+    let queues = match folder.inspect_both(progress) {
+        Ok(Some(queues)) => queues,
+        Ok(None) => return Ok(None),
+        Err(error) => {
+            let plan = folder.plan_of_unread(options, error)?;
+            plan.add_lines(&mut out.lines)?;
+            return Ok(Some(plan.status()));
+        }
     };
     let Some(plan) = folder.whole_plan(&queues, options, progress)? else {
         return Ok(None);

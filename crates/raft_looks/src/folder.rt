@@ -8,7 +8,7 @@ use raft_command_line::Options;
 use raft_config::RecoveryMode;
 use raft_console::Progress;
 use raft_disk::{FolderView, SpanNote, image_of};
-use raft_dump::{FileCheck, LogFile, check_file, log_file, log_files};
+use raft_dump::{FileCheck, LogFile, check_file, log_file};
 use raft_env::FileSystem;
 use raft_files::FileNameExt;
 use raft_inspect::{Cut, QueueFiles, cuts_of};
@@ -58,10 +58,19 @@ impl Drop for Folder {
 }
 
 /// A reserved file's path, and how many bytes it has.
-#[derive(Drop)]
 pub struct ReservedFile {
     pub path: String,
     pub len: u64,
+}
+
+// One call in a proof that drops it; derived, it would be one of each field (docs/DECISIONS.md).
+impl Drop for ReservedFile {
+    fn drop(self) {
+        let ReservedFile {
+            path: _path,
+            len: _,
+        } = self;
+    }
 }
 
 impl Folder {
@@ -126,26 +135,13 @@ impl Folder {
     }
 
     fn add_name(&mut self, folder: &str, name: String) -> Result<()> {
-        match is_reserved(self.alloc, name.as_str()) {
-            Ok(true) => return self.add_reserved(folder, name.as_str()),
-            Ok(false) => {}
-            Err(fault) => bail!("{fault}"),
+        if or_bail(is_reserved(self.alloc, name.as_str()))? {
+            return self.add_reserved(folder, name.as_str());
         }
-        let one = vec![in self.alloc; name]?;
-        let found = match log_files(self.alloc, folder, &one) {
-            Ok(found) => found,
-            Err(fault) => bail!("{fault}"),
-        };
-        if found.is_empty() {
-            for name in one {
-                self.others.push(name)?;
-            }
-            return Ok(());
+        match or_bail(log_file_named(self.alloc, folder, name.as_str()))? {
+            Some(file) => Ok(self.files.push(file)?),
+            None => Ok(self.others.push(name)?),
         }
-        for file in found {
-            self.files.push(file)?;
-        }
-        Ok(())
     }
 
     // A writer may use it meanwhile.
@@ -226,16 +222,12 @@ impl Folder {
     pub fn image_in_one_folder(&self, progress: &mut Progress) -> Result<Option<MemoryFileSystem>> {
         let mut files = Vec::new(self.alloc);
         for queue in &[LogQueue::Rewrite, LogQueue::Append] {
-            let mut before = None;
-            for file in self.files_of(*queue)? {
-                if before == Some(file.id.seq) {
-                    bail!("{}: the other folder has this file too", file.path);
-                }
-                before = Some(file.id.seq);
+            let of_queue = self.files_of(*queue)?;
+            check_single(&of_queue)?;
+            for file in &of_queue {
                 progress.at("files read", files.len() as u64, self.files.len() as u64)?;
-                let name = file.id.build_file_name(self.alloc)?;
-                match self.read(file.path.as_str(), progress)? {
-                    Some(bytes) => files.push((name, bytes))?,
+                match self.named_bytes(file, progress)? {
+                    Some(named) => files.push(named)?,
                     None => return Ok(None),
                 }
             }
@@ -243,6 +235,18 @@ impl Folder {
         match image_of(self.alloc, files, Vec::new(self.alloc)) {
             Ok(image) => Ok(Some(image)),
             Err(fault) => Err(told(&self.rt, &fault)),
+        }
+    }
+
+    // The bytes of a file, and its name in its folder; none if it is gone meanwhile.
+    fn named_bytes(
+        &self,
+        file: &LogFile,
+        progress: &mut Progress,
+    ) -> Result<Option<(String, Vec<u8>)>> {
+        match self.read(file.path.as_str(), progress)? {
+            Some(bytes) => Ok(Some((file.id.build_file_name(self.alloc)?, bytes))),
+            None => Ok(None),
         }
     }
 
@@ -254,13 +258,13 @@ impl Folder {
         if !self.has_other(name) {
             return Ok(None);
         }
-        let path = String::from_str(self.alloc, name)?;
-        for queue in &[LogQueue::Rewrite, LogQueue::Append] {
-            if let Some(file) = log_file(self.alloc, "", own, *queue)? {
-                return Ok(Some(LogFile { id: file.id, path }));
-            }
+        match log_file_named(self.alloc, "", own)? {
+            Some(file) => Ok(Some(LogFile {
+                id: file.id,
+                path: String::from_str(self.alloc, name)?,
+            })),
+            None => Ok(None),
         }
-        Ok(None)
     }
 
     fn has_other(&self, name: &str) -> bool {
@@ -355,6 +359,35 @@ impl Folder {
             },
             RecoveryMode::TolerateAnyCorruption => Ok(files),
         }
+    }
+}
+
+// The files are in the order of their numbers.
+fn check_single(files: &[LogFile]) -> Result<()> {
+    let mut before = None;
+    for file in files {
+        if before == Some(file.id.seq) {
+            bail!("{}: the other folder has this file too", file.path);
+        }
+        before = Some(file.id.seq);
+    }
+    Ok(())
+}
+
+// The log file of either queue with this name in a folder.
+fn log_file_named(alloc: Global, folder: &str, name: &str) -> Result<Option<LogFile>, Fault> {
+    for queue in &[LogQueue::Rewrite, LogQueue::Append] {
+        if let Some(file) = log_file(alloc, folder, name, *queue)? {
+            return Ok(Some(file));
+        }
+    }
+    Ok(None)
+}
+
+fn or_bail<T>(called: Result<T, Fault>) -> Result<T> {
+    match called {
+        Ok(value) => Ok(value),
+        Err(fault) => bail!("{fault}"),
     }
 }
 

@@ -3,8 +3,8 @@
 use anyhow::{Result, anyhow};
 use raft_disk::{is_log_name, is_plain};
 use raft_opening_plan::{Plan, Planner};
-use std::alloc::AllocError;
-use std::fs::{self, DirEntry, Metadata, OpenOptions};
+use std::alloc::{AllocError, Global};
+use std::fs::{self, DirEntry, File, Metadata, OpenOptions};
 use std::io::{self, ErrorKind};
 use std::os::unix::fs::MetadataExt;
 
@@ -12,6 +12,9 @@ const LOCK: &str = "LOCK";
 
 /// The end of the name of a reserved file.
 const RESERVED: &str = ".reserved";
+
+/// The system's folder of this process, whose owner is the user as whom it runs.
+const SELF: &str = "/proc/self";
 
 /// Why a path is refused, and the command that mends it.
 #[derive(Drop)]
@@ -59,17 +62,35 @@ impl Places<'_> {
         }
         let mut place = String::from_str(alloc, folder)?;
         for part in spill.split('/') {
-            place.push('/')?;
-            place.push_str(part)?;
+            place = format!(in alloc; "{place}/{part}")?;
             if is_link(self.rt, place.as_str()) {
-                let cause = "the second folder is a link: put the folder itself there";
-                let none = String::new(alloc);
-                let item = self.planner.refused(place.as_str(), cause, none)?;
-                return Ok(plan.items.push(item)?);
+                return Ok(self.add_link(place.as_str(), plan)?);
             }
             self.add_refused(place.as_str(), plan)?;
         }
         Ok(())
+    }
+
+    fn add_link(&self, place: &str, plan: &mut Plan) -> Result<(), AllocError> {
+        let cause = "the second folder is a link: put the folder itself there";
+        let mend = self.mend_of_link(place)?;
+        Ok(plan.items.push(self.planner.refused(place, cause, mend)?)?)
+    }
+
+    // Puts the folder to which a link leads in its place; nothing if it leads to no folder.
+    fn mend_of_link(&self, place: &str) -> Result<String, AllocError> {
+        let alloc = self.rt.alloc();
+        let leads_to_folder = match fs::metadata(self.rt, place) {
+            Ok(metadata) => metadata.is_dir(),
+            Err(_) => false,
+        };
+        match fs::read_link(self.rt, place) {
+            Ok(target) if leads_to_folder => {
+                let folder = folder_at(alloc, place, target.as_str())?;
+                self.planner.replace_link(place, folder.as_str())
+            }
+            _ => Ok(String::new(alloc)),
+        }
     }
 
     fn add_entry(&self, entry: &DirEntry, plan: &mut Plan) -> Result<()> {
@@ -130,11 +151,50 @@ impl Places<'_> {
             Ok(()) => Ok(None),
             // A look works on what may not be written at all.
             Err(e) if e.kind() == ErrorKind::ReadOnlyFilesystem => Ok(None),
-            Err(e) => Ok(Some(Cause {
-                text: format!(in alloc; "{e}")?,
-                mend: self.planner.allow(place)?,
-            })),
+            Err(e) => Ok(Some(self.unopened(place, metadata.uid(), &e)?)),
         }
+    }
+
+    // Only the owner of a file gives rights to it; others put a copy in its place, if they can read
+    // it.
+    fn unopened(&self, place: &str, owner: u32, error: &io::Error) -> Result<Cause, AllocError> {
+        let alloc = self.rt.alloc();
+        if error.kind() != ErrorKind::PermissionDenied {
+            return Ok(Cause {
+                text: format!(in alloc; "{error}")?,
+                mend: String::new(alloc),
+            });
+        }
+        if is_user(self.rt, owner) {
+            return Ok(Cause {
+                text: format!(in alloc; "{error}")?,
+                mend: self.planner.allow(place)?,
+            });
+        }
+        let mend = match File::open(self.rt, place) {
+            Ok(_) => self.planner.copy_over(place)?,
+            Err(_) => String::new(alloc),
+        };
+        Ok(Cause {
+            text: format!(in alloc; "{error}: its owner is user {owner}")?,
+            mend,
+        })
+    }
+}
+
+// The path of a folder to which a link leads.
+fn folder_at(alloc: Global, link: &str, target: &str) -> Result<String, AllocError> {
+    match link.rsplit_once('/') {
+        Some((folder, _)) if !target.starts_with('/') => format!(in alloc; "{folder}/{target}"),
+        _ => String::from_str(alloc, target),
+    }
+}
+
+// Whether this program runs as a user.
+fn is_user(rt: &HostRuntime, user: u32) -> bool {
+    match fs::metadata(rt, SELF) {
+        Ok(metadata) => metadata.uid() == user,
+        Err(_) => true,
     }
 }
 

@@ -161,19 +161,37 @@ impl ReadFiles<'_> {
         let mut is_empty = true;
         for file in there {
             let front = self.front_of(file.path.as_str())?;
-            let holds = holds_more_than_header(&front);
-            is_empty = is_empty && !holds;
-            for own in self.files {
-                if own.id != file.id {
-                    continue;
-                }
-                if holds && begin_alike(&self.front_of(own.path.as_str())?, &front) {
-                    return Ok(Kinship::Copy);
-                }
-                kinship = Kinship::Doubled(own.id);
+            is_empty = is_empty && !holds_more_than_header(&front);
+            match self.kinship_of_file(file.id, &front)? {
+                Kinship::Copy => return Ok(Kinship::Copy),
+                Kinship::Doubled(id) => kinship = Kinship::Doubled(id),
+                Kinship::Apart => {}
             }
         }
         Ok(if is_empty { Kinship::Copy } else { kinship })
+    }
+
+    // Of a file that begins so.
+    fn kinship_of_file(&self, id: FileId, front: &[u8]) -> Result<Kinship> {
+        let mut kinship = Kinship::Apart;
+        for own in self.files {
+            if own.id != id {
+                continue;
+            }
+            if self.begins_so(own.path.as_str(), front)? {
+                return Ok(Kinship::Copy);
+            }
+            kinship = Kinship::Doubled(id);
+        }
+        Ok(kinship)
+    }
+
+    // Whether a file begins with the same bytes, and more than a header.
+    fn begins_so(&self, path: &str, front: &[u8]) -> Result<bool> {
+        if !holds_more_than_header(front) {
+            return Ok(false);
+        }
+        Ok(begin_alike(&self.front_of(path)?, front))
     }
 
     // The first bytes of a file; none if a writer deleted it.

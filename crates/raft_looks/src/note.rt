@@ -3,9 +3,11 @@
 use crate::faults::told;
 use crate::folder::Folder;
 use anyhow::Result;
-use raft_disk::{OpenFault, SpanNote};
+use raft_disk::{OpenFault, Span, SpanNote, SpanReport};
+use raft_inspect::QueueFiles;
 use raft_opening_plan::Known;
-use raft_records::LogQueue;
+use raft_records::{FileId, LogQueue};
+use std::alloc::AllocError;
 
 impl Folder {
     /// The note, read before and after the names; none if a writer changed it meanwhile.
@@ -30,21 +32,30 @@ impl Folder {
         }
     }
 
+    /// The files that a purge had dropped, as the note says, and that an opening passes over.
+    pub fn left_over(&self) -> Result<Vec<FileId>> {
+        let mut left_over = Vec::new(self.alloc);
+        for queue in &[LogQueue::Append, LogQueue::Rewrite] {
+            let files = self.files_of(*queue)?;
+            let passed = QueueFiles::passed_by_number(&files);
+            if let Some(known) = self.known(*queue)? {
+                for file in files.get(..passed).unwrap_or(&[]) {
+                    if known.left_over.contains(&file.id.seq) {
+                        left_over.push(file.id)?;
+                    }
+                }
+            }
+        }
+        Ok(left_over)
+    }
+
     /// What the note says of a queue; none without a note, and if another program wrote to the log
     /// after it.
     pub(crate) fn known(&self, queue: LogQueue) -> Result<Option<Known>> {
-        let Some(note) = &self.note else {
+        let Some(span) = self.span(queue) else {
             return Ok(None);
         };
-        let span = match queue {
-            LogQueue::Append => note.spans.append,
-            LogQueue::Rewrite => note.spans.rewrite,
-        };
-        let mut numbers = Vec::new(self.alloc);
-        for file in self.files_of(queue)? {
-            numbers.push(file.id.seq)?;
-        }
-        let report = span.report(self.alloc, &numbers)?;
+        let report = self.report(span, queue)?;
         if report.is_stale {
             return Ok(None);
         }
@@ -54,6 +65,40 @@ impl Folder {
             missing: report.missing,
             strays: report.strays,
             left_over: report.left_over,
+            has_lost: span.has_lost,
         }))
+    }
+
+    /// What the note says of missing files. That files were missing before is known also if another
+    /// program wrote to the log since.
+    pub(crate) fn known_losses(&self, queue: LogQueue) -> Result<Option<Known>> {
+        match (self.known(queue)?, self.span(queue)) {
+            (Some(known), _) => Ok(Some(known)),
+            (None, Some(span)) if span.has_lost => Ok(Some(Known {
+                first: span.first,
+                last: span.last,
+                missing: Vec::new(self.alloc),
+                strays: Vec::new(self.alloc),
+                left_over: Vec::new(self.alloc),
+                has_lost: true,
+            })),
+            _ => Ok(None),
+        }
+    }
+
+    fn span(&self, queue: LogQueue) -> Option<Span> {
+        let note = self.note.as_ref()?;
+        match queue {
+            LogQueue::Append => Some(note.spans.append),
+            LogQueue::Rewrite => Some(note.spans.rewrite),
+        }
+    }
+
+    fn report(&self, span: Span, queue: LogQueue) -> Result<SpanReport, AllocError> {
+        let mut numbers = Vec::new(self.alloc);
+        for file in self.files_of(queue)? {
+            numbers.push(file.id.seq)?;
+        }
+        span.report(self.alloc, &numbers)
     }
 }

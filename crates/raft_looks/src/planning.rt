@@ -5,7 +5,7 @@ use crate::folder::Folder;
 use crate::hindrances::Places;
 use crate::left_out::ReadFiles;
 use crate::source::is_missing;
-use anyhow::{Result, bail};
+use anyhow::{Error, Result, bail};
 use raft_command_line::Options;
 use raft_config::RecoveryMode;
 use raft_console::Progress;
@@ -60,12 +60,24 @@ impl Folder {
         }
     }
 
-    /// What an opening in the options' mode does; none if a file is gone meanwhile.
+    /// What an opening in the options' mode does; none if a file is gone meanwhile. If a file cannot
+    /// be read, it is what the system refuses.
     pub fn plan(&self, options: &Options<'_>, progress: &mut Progress) -> Result<Option<Plan>> {
-        match self.inspect_both(progress)? {
-            Some(queues) => self.whole_plan(&queues, options, progress),
-            None => Ok(None),
+        match self.inspect_both(progress) {
+            Ok(Some(queues)) => self.whole_plan(&queues, options, progress),
+            Ok(None) => Ok(None),
+            Err(error) => Ok(Some(self.plan_of_unread(options, error)?)),
         }
+    }
+
+    /// What the system refuses, if files cannot be read for this error; it fails with the error if
+    /// the system refuses nothing else.
+    pub(crate) fn plan_of_unread(&self, options: &Options<'_>, error: Error) -> Result<Plan> {
+        let plan = self.refused(options)?;
+        if plan.items.is_empty() {
+            return Err(error);
+        }
+        Ok(plan)
     }
 
     /// The same of files that were read.
@@ -79,6 +91,7 @@ impl Folder {
             return Ok(None);
         };
         self.add_refused(options, &mut plan)?;
+        plan.drop_unreached(self.alloc)?;
         if !reads_reserved(options) {
             self.add_deleted(&mut plan)?;
         }
@@ -151,7 +164,7 @@ impl Folder {
             None => "",
         };
         for queue in &[LogQueue::Append, LogQueue::Rewrite] {
-            if let Some(known) = self.known(*queue)? {
+            if let Some(known) = self.known_losses(*queue)? {
                 planner.add_missing(*queue, &known, spill, plan)?;
             }
         }

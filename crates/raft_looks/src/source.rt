@@ -12,7 +12,6 @@ use raft_records::Fault;
 use std::io::ErrorKind;
 
 /// A file of a folder under a look, and the parts that were read, only for clauses.
-#[derive(Drop)]
 pub struct FileSource<'a> {
     rt: HostRuntime,
     view: &'a FolderView,
@@ -22,6 +21,21 @@ pub struct FileSource<'a> {
     given: History<FilePart>,
     /// The system's text when it refused a read.
     refused: Option<OpenFault>,
+}
+
+// One call in a proof that drops it; derived, it would be one of each field (docs/DECISIONS.md).
+impl Drop for FileSource<'_> {
+    fn drop(self) {
+        let FileSource {
+            rt: _,
+            view: _,
+            path: _,
+            size: _,
+            progress: _,
+            given: _given,
+            refused: _refused,
+        } = self;
+    }
 }
 
 impl<'a> FileSource<'a> {

@@ -11,7 +11,8 @@ use raft_env::{FileSystem, FsFault};
 use raft_fork::FORK_MARK;
 use raft_inspect::Word;
 use raft_looks::{Folder, tell_refusal, told};
-use std::alloc::Global;
+use raft_memory::MemoryFileSystem;
+use std::alloc::{AllocError, Global};
 use std::io::ErrorKind;
 
 /// The place in memory for the names of the source and of the target.
@@ -43,9 +44,8 @@ fn fork_source(
     if source.is_in_use() {
         return Err(anyhow!("it is open already").context(request.folder));
     }
-    let settings = config(rt.alloc(), &request.options)?;
     let status = status_of_source(rt, request)?;
-    let copies = plan(rt, source, target, &settings)?;
+    let copies = copies_of(rt, source, request, target)?;
     match DiskFileSystem::open_with(rt, target, None) {
         Ok(mut files) => {
             copy_or_tell(rt, source, &copies, &mut files, request)?;
@@ -84,25 +84,47 @@ fn copy_or_tell(
 }
 
 // Decides by the names of the files alone which are copied.
-fn plan(rt: HostRuntime, source: &FolderView, target: &str, config: &Config) -> Result<Vec<Copy>> {
-    let alloc = rt.alloc();
-    let mut files = Vec::new(alloc);
-    let mut folders = vec![in alloc; String::from_str(alloc, SOURCE)?]?;
-    add_names(&rt, source, "", SOURCE, &mut files)?;
-    if let Some(spill) = &config.spill_dir {
-        let place = format!(in alloc; "{SOURCE}/{spill}")?;
-        add_names(&rt, source, spill.as_str(), place.as_str(), &mut files)?;
-        folders.push(place)?;
-    }
-    add_target(rt, target, &mut files)?;
-    let mut image = match image_of(alloc, files, folders) {
-        Ok(image) => image,
-        Err(fault) => return Err(told(&rt, &fault)),
-    };
+fn copies_of(
+    rt: HostRuntime,
+    source: &FolderView,
+    request: &Request<'_>,
+    target: &str,
+) -> Result<Vec<Copy>> {
+    let config = config(rt.alloc(), &request.options)?;
+    let mut image = image_of_names(rt, source, target, &config)?;
     or_failure(
-        planned(alloc, config, &mut image),
+        planned(rt.alloc(), &config, &mut image),
         "the log cannot be copied",
     )
+}
+
+// Both folders, with files without bytes.
+fn image_of_names(
+    rt: HostRuntime,
+    source: &FolderView,
+    target: &str,
+    config: &Config,
+) -> Result<MemoryFileSystem> {
+    let mut files = Vec::new(rt.alloc());
+    add_names(&rt, source, "", SOURCE, &mut files)?;
+    let folders = folders_of(rt.alloc(), config)?;
+    if let (Some(spill), Some(place)) = (&config.spill_dir, folders.get(1)) {
+        add_names(&rt, source, spill.as_str(), place.as_str(), &mut files)?;
+    }
+    add_target(rt, target, &mut files)?;
+    match image_of(rt.alloc(), files, folders) {
+        Ok(image) => Ok(image),
+        Err(fault) => Err(told(&rt, &fault)),
+    }
+}
+
+// The source's folder, and the second one.
+fn folders_of(alloc: Global, config: &Config) -> Result<Vec<String>, AllocError> {
+    let mut folders = vec![in alloc; String::from_str(alloc, SOURCE)?]?;
+    if let Some(spill) = &config.spill_dir {
+        folders.push(format!(in alloc; "{SOURCE}/{spill}")?)?;
+    }
+    Ok(folders)
 }
 
 type Named = (String, Vec<u8>);

@@ -3,6 +3,12 @@
 use crate::planner::Planner;
 use std::alloc::{AllocError, Global};
 
+/// The option for the second folder of a log, with a space.
+pub(crate) const SPILL: &str = "--spill ";
+
+/// The same for the log that an import reads.
+pub(crate) const FROM_SPILL: &str = "--from-spill ";
+
 impl Planner<'_> {
     /// `raftctl FOLDER WORDS`, with the second folder if the command line names one.
     pub(crate) fn raftctl(&self, words: &str) -> Result<String, AllocError> {
@@ -59,18 +65,25 @@ impl Planner<'_> {
         format!(in self.alloc; "chmod u+rw {place}")
     }
 
-    /// Puts a copy in the place of a file, whose other names keep the file itself.
+    /// Puts a copy in the place of a file. Its other names, or its owner, keep the file itself.
     pub fn copy_over(&self, place: &str) -> Result<String, AllocError> {
         let copy = format!(in self.alloc; "{place}.copy")?;
         let copy = quoted(self.alloc, copy.as_str())?;
         let place = quoted(self.alloc, place)?;
-        format!(in self.alloc; "test ! -e {copy} && cp -p {place} {copy} && mv {copy} {place}")
+        format!(in self.alloc; "test ! -e {copy} && cp -p {place} {copy} && mv -f {copy} {place}")
+    }
+
+    /// Puts a folder in the place of the link to it.
+    pub fn replace_link(&self, place: &str, folder: &str) -> Result<String, AllocError> {
+        let place = quoted(self.alloc, place)?;
+        let folder = quoted(self.alloc, folder)?;
+        format!(in self.alloc; "rm {place} && mv {folder} {place}")
     }
 
     /// The option for a second folder.
     pub(crate) fn spill_option(&self, below: &str) -> Result<String, AllocError> {
         let below = quoted(self.alloc, below)?;
-        format!(in self.alloc; "--spill {below}")
+        format!(in self.alloc; "{SPILL}{below}")
     }
 
     // A path beside the log's folder, as a word of a shell.
@@ -85,28 +98,51 @@ impl Planner<'_> {
     }
 }
 
-// A text as a word of a shell.
+// A text as a word of a shell. If it has a control character, the shell is bash or zsh.
 fn quoted(alloc: Global, text: &str) -> Result<String, AllocError> {
     if is_word(text) {
         return String::from_str(alloc, text);
     }
-    let mut quoted = String::new(alloc);
-    quoted.push_str("$'")?;
+    if has_control(text) {
+        return escaped(alloc, text);
+    }
+    let mut quoted = String::from_str(alloc, "'")?;
     for each in text.chars() {
         match each {
-            '\'' | '\\' => {
-                quoted.push('\\')?;
-                quoted.push(each)?;
-            }
-            _ if each.is_control() => {
-                let code = u32::from(each);
-                quoted.push_str(format!(in alloc; "\\u{code:04x}")?.as_str())?;
-            }
+            '\'' => quoted.push_str("'\\''")?,
             _ => quoted.push(each)?,
         }
     }
     quoted.push('\'')?;
     Ok(quoted)
+}
+
+fn escaped(alloc: Global, text: &str) -> Result<String, AllocError> {
+    let mut escaped = String::from_str(alloc, "$'")?;
+    for each in text.chars() {
+        match each {
+            '\'' | '\\' => {
+                escaped.push('\\')?;
+                escaped.push(each)?;
+            }
+            _ if each.is_control() => {
+                let code = u32::from(each);
+                escaped.push_str(format!(in alloc; "\\u{code:04x}")?.as_str())?;
+            }
+            _ => escaped.push(each)?,
+        }
+    }
+    escaped.push('\'')?;
+    Ok(escaped)
+}
+
+fn has_control(text: &str) -> bool {
+    for each in text.chars() {
+        if each.is_control() {
+            return true;
+        }
+    }
+    false
 }
 
 // Whether a shell takes a text as one word, as it is.

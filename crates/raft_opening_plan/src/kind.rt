@@ -71,7 +71,7 @@ impl Kind {
             Kind::LeftOver => Row("left-over", Status::Done, Change::GoesOn),
             Kind::Folder => Row("left-out", Status::WouldPass, Change::Refused),
             Kind::Queue => Row("gone", Status::WouldPass, Change::Refused),
-            Kind::Missing => Row("missing", Status::WouldPass, Change::GoesOn),
+            Kind::Missing => Row("missing", Status::WouldPass, Change::Refused),
             Kind::Reserved => Row("reserved", Status::Done, Change::GoesOn),
         }
     }

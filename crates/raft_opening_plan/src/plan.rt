@@ -1,5 +1,6 @@
 //! The plan of an opening.
 
+use crate::command::{FROM_SPILL, SPILL};
 use crate::item::Item;
 use crate::kind::{Change, Kind, Row};
 use raft_command_line::Options;
@@ -9,9 +10,15 @@ use std::alloc::{AllocError, Global};
 use std::{io, str};
 
 /// What an opening cuts, passes over, leaves out and deletes, and where it fails.
-#[derive(Drop)]
 pub struct Plan {
     pub items: Vec<Item>,
+}
+
+// One call in a proof that drops it; derived, it would be one of each field (docs/DECISIONS.md).
+impl Drop for Plan {
+    fn drop(self) {
+        let Plan { items: _items } = self;
+    }
 }
 
 impl Plan {
@@ -64,6 +71,28 @@ impl Plan {
         None
     }
 
+    /// Leaves out what happens to the bytes of files at which the opening is refused before.
+    pub fn drop_unreached(&mut self, alloc: Global) -> Result<(), AllocError> {
+        let mut places = Vec::new(alloc);
+        for item in &self.items {
+            if item.kind == Kind::Refused {
+                places.push(item.path.clone()?)?;
+            }
+        }
+        self.items.retain(|item| !is_unreached(item, &places));
+        Ok(())
+    }
+
+    /// Names the second folder by the option of an import, which reads this log for another one.
+    pub fn name_source(&mut self, alloc: Global) -> Result<(), AllocError> {
+        for item in &mut self.items {
+            if let Some(folder) = item.mend.strip_prefix(SPILL) {
+                item.mend = format!(in alloc; "{FROM_SPILL}{folder}")?;
+            }
+        }
+        Ok(())
+    }
+
     /// Adds a line for each item.
     pub fn add_lines(&self, lines: &mut Lines) -> Result<(), AllocError> {
         for item in &self.items {
@@ -85,6 +114,20 @@ impl Plan {
             Err(_) => Ok(()),
         }
     }
+}
+
+// Whether an item is of bytes of a file at one of these places.
+fn is_unreached(item: &Item, places: &[String]) -> bool {
+    match item.kind {
+        Kind::Tail | Kind::Records | Kind::Broken => {}
+        _ => return false,
+    }
+    for place in places {
+        if place.ends_with(item.path.as_str()) {
+            return true;
+        }
+    }
+    false
 }
 
 // Which of two statuses counts.

@@ -16,7 +16,6 @@ pub struct Planner<'a> {
 }
 
 /// What the note of spans beside the log files says of a queue.
-#[derive(Drop)]
 pub struct Known {
     /// The numbers of the first file that is needed and of the last one that was made.
     pub first: u64,
@@ -27,4 +26,20 @@ pub struct Known {
     pub strays: Vec<u64>,
     /// Numbers of files that a purge had dropped.
     pub left_over: Vec<u64>,
+    /// Whether files were missing at an earlier opening, and cannot be put back.
+    pub has_lost: bool,
+}
+
+// One call in a proof that drops it; derived, it would be one of each field (docs/DECISIONS.md).
+impl Drop for Known {
+    fn drop(self) {
+        let Known {
+            first: _,
+            last: _,
+            missing: _missing,
+            strays: _strays,
+            left_over: _left_over,
+            has_lost: _,
+        } = self;
+    }
 }

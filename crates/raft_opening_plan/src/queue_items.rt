@@ -254,6 +254,9 @@ impl Planner<'_> {
         spill: &str,
         plan: &mut Plan,
     ) -> Result<(), AllocError> {
+        if known.has_lost {
+            plan.items.push(self.lost(queue)?)?;
+        }
         let name = queue_name(queue);
         let mend = self.mend_of_missing(spill, plan)?;
         for (first, last) in &known.missing {
@@ -272,6 +275,24 @@ impl Planner<'_> {
             })?;
         }
         Ok(())
+    }
+
+    // Files that were missing when the log was opened, so that other ones got their numbers or a
+    // purge passed them.
+    fn lost(&self, queue: LogQueue) -> Result<Item, AllocError> {
+        let name = queue_name(queue);
+        Ok(Item {
+            kind: Kind::Missing,
+            path: String::from_str(self.alloc, name)?,
+            files: 0,
+            at: 0,
+            bytes: 0,
+            cause: format!(in self.alloc;
+                "files of queue {name} were missing at an earlier opening, and cannot be put back: \
+                the loss is not accepted yet"
+            )?,
+            mend: self.raftctl("repair --cut")?,
+        })
     }
 
     // A folder that is left out may have them. Without another file of the queue they are not to be

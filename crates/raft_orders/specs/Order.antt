@@ -4,13 +4,13 @@ use Rattle.raft_codec.specs.Number.{u64_bytes}
 use Rattle.raft_disk.specs.declared.told.Call.{Call}
 use Rattle.raft_disk.specs.declared.told.Call.TheVariants as call
 
--- a byte that says what is to be done, a number, the lengths of two parts, and the parts
+-- an order: a byte for its kind, a number, the lengths of two parts, and the parts
 abbrev pub order_of : ℕ → ℕ → List ℕ → List ℕ → List ℕ
 order_of kind number first second =
     kind ∷ u64_bytes number ++ u64_bytes (length first) ++ u64_bytes (length second)
     ++ first ++ second
 
--- the first part is the path
+-- the order of a call; the first part is its path
 abbrev pub order_bytes : Call → List ℕ
 order_bytes (call.Create path) = order_of 1 0 path []
 order_bytes (call.Delete path) = order_of 2 0 path []

@@ -9,6 +9,6 @@ use Rattle.raft_orders.specs.declared.orders.Orders.{Orders}
 abbrev pub ordered_of : Orders → Directory
 ordered_of orders = after_calls orders.told.items (found_files orders.found.items)
 
--- the descriptor that they go to; without one nobody carries them out
+-- the descriptor that orders go to; without one nobody carries them out
 abbrev pub goes_to : Orders → Option ℤ
 goes_to orders = orders.out

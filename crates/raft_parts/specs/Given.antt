@@ -10,19 +10,19 @@ use Rattle.raft_dump.specs.Items.{Given, items_at}
 abbrev pub cursor : FileId → LogFileFormat → List ℕ → ℕ → RecordCursor
 cursor id format bytes at = record { id = id; format = format; bytes = bytes; at = at }
 
--- the items of these records, each with the place where its record is looked for
+-- the items of these records, each with the place of its record; the first record is here
 abbrev pub items_from : ℕ → List PlacedRecord → List Given
 items_from at [] = []
 items_from at (p ∷ ps) = items_at at p.batch ++ items_from (p.at + p.len) ps
 
--- those that a reader gives from where it stands on
+-- the items that a reader still gives
 abbrev pub items_left : RecordCursor → List Given
 items_left r = items_from r.at (replayed_left r)
 
--- where they end
+-- the end of the records that a reader still gives
 abbrev pub end_of_items : RecordCursor → ℕ
 end_of_items r = end_of_records r.at (replayed_left r)
 
--- each from a place behind the one on, at the other
+-- items whose places, counted from one offset, are counted from another
 abbrev pub moved : ℕ → ℕ → List Given → List Given
 moved from to given = map (λ (g : Given). record g { offset = to + (g.offset - from) }) given

@@ -12,25 +12,26 @@ use Rattle.raft_parts.specs.declared.source.FilePart.{FilePart}
 abbrev pub part_len : ℕ
 part_len = 262144
 
--- it is what stands there in a file of these bytes
+-- the part has the bytes that a file of these bytes has at its place
 abbrev pub IsPartOf : List ℕ → FilePart → Type 0
 IsPartOf bytes part = part.bytes.items ≡ take part.len (drop part.at bytes)
 
+-- all parts are of a file of these bytes
 abbrev pub AreOf : List ℕ → List FilePart → Type 0
 AreOf bytes parts = Each (IsPartOf bytes) parts
 
--- by a read, or for want of memory
+-- a read failed, or memory ran out
 abbrev pub IsReadRefusal : Fault → Type 0
 IsReadRefusal (fault.Io kind text) = Unit {0}
 IsReadRefusal fault.Memory = Unit {0}
 IsReadRefusal _ = ⊥
 
--- of a file of this size of which these parts were given before a call and after it: it tells this
--- of any bytes that the parts are of, among which the parts before are
+-- from the parts of a file that it was given, a call returns what holds of any such file
 pub record ReadsParts {T : Type 0} (result : Result T Fault) (IsTold : T → List ℕ → Type 0)
     (size : ℕ) (old new : List FilePart) : Type 0 where
   pub value : IfOk result (λ told. (bytes : List ℕ) → length bytes ≡ size → AreOf bytes new
       → IsTold told bytes)
+  -- parts given before the call are among those after it
   pub given : OnOk result ((bytes : List ℕ) → AreOf bytes new → AreOf bytes old)
   pub cause : IfErr result IsReadRefusal
 
@@ -41,27 +42,26 @@ pub record BeginsWith (header : List ℕ) (format : LogFileFormat) (bytes : List
   pub header_is : header ≡ take (header_len format.version) bytes
   pub unaligned : format.alignment ≡ 0
 
--- a file whose parts are put behind a header: its size, and where the part begins, how many bytes
--- it is to have, and those that were read of it
+-- a file of which one part at a time is put after its header
 pub record PartsState : Type 0 where
   pub header : List ℕ
   pub size : ℕ
+  -- where the part begins, how many bytes it is to have, and those that were read
   pub at : ℕ
   pub len : ℕ
   pub part : List ℕ
 
--- these bytes tell whether a record stands where they do, so many bytes before the end of a file
+-- these bytes show if a record is next, with so many bytes left in the file
 abbrev pub TellsNext : ℕ → List ℕ → Type 0
 TellsNext left front = (bytes : List ℕ) → length bytes ≡ left → front ≡ take (length front) bytes
     → HasRecordOf bytes front
 
--- they do, or so many more are wanted, which the file has
+-- TellsNext, or this many bytes are needed, which the file has
 abbrev pub IsWanted : ℕ → List ℕ → Option ℕ → Type 0
 IsWanted left front None = TellsNext left front
 IsWanted left front (Some wanted) = (length front < wanted) × (wanted ≤ left)
 
--- where no part was read yet, the first one begins behind the header; where records are aligned, it
--- is the file; without a header only the bytes that were to have one are looked at
+-- the state before any part is read: the first part begins after the header
 abbrev pub begun_with : List ℕ → Option (LogFileFormat × List ℕ) → PartsState
 begun_with bytes None = record {
   header = [];
@@ -78,12 +78,11 @@ begun_with bytes (Some (format, rest)) = if format.alignment == 0 then record {
   part = [];
 } else record { header = []; size = length bytes; at = 0; len = length bytes; part = [] }
 
--- so many bytes of the part were read where its reading ended there, behind the header
+-- how many bytes of the part were read, if its reading ended at this place
 abbrev pub read_of : ℕ → PartsState → ℕ
 read_of end p = min (end - length p.header) (length p.part)
 
--- the next part begins where the reading ended, and has more bytes than the rest of this one, or
--- what stands there is told
+-- the next part begins where the reading ended; if there is none, it is known what follows
 abbrev pub GoesOn : ℕ → PartsState → Bool → PartsState → Type 0
 GoesOn end old true new =
     (new ≡ record old { at = old.at + read_of end old; len = new.len; part = [] })

@@ -62,7 +62,7 @@ fn read_parts<S: PartSource>(
     read_records(alloc, file, format, &front.bytes[..len], size, source)
 }
 
-// Aligned records stand where their places in the file have it.
+// A file of aligned records is read whole, since their places in it count.
 fn check_whole<S: PartSource>(
     alloc: Global,
     file: &LogFile,
@@ -76,7 +76,7 @@ fn check_whole<S: PartSource>(
     check_part(alloc, file, &[], &part.bytes)
 }
 
-// What can be read of a part behind the header.
+// What can be read of a part after the header.
 fn check_part(alloc: Global, file: &LogFile, header: &[u8], part: &[u8]) -> Result<FileCheck, Fault>
     ensures value { IfOk result (IsCheckOf file.now.id (header.now ++ part.now)) }
     ensures cause { IfErr result IsReadRefusal }
@@ -85,7 +85,7 @@ fn check_part(alloc: Global, file: &LogFile, header: &[u8], part: &[u8]) -> Resu
     check_file(alloc, file, &mut image)
 }
 
-// The records behind the header, part by part.
+// The records after the header, part by part.
 fn read_records<S: PartSource>(
     alloc: Global,
     file: &LogFile,
@@ -119,7 +119,7 @@ fn read_records<S: PartSource>(
 }
 
 // Adds what was read of a part, and says how many bytes are to be read next, if any.
-fn go_on(check: &mut FileCheck, read: FileCheck, header: &[u8], part: &[u8]) -> Option<usize>
+fn go_on(check: &mut FileCheck, mut read: FileCheck, header: &[u8], part: &[u8]) -> Option<usize>
     requires { check.old.end + length part.now ≤ check.old.len }
     ensures added { check.new ≡ record check.old {
       records = min (check.old.records + read.records) (2 ^ 64 - 1);
@@ -133,13 +133,13 @@ fn go_on(check: &mut FileCheck, read: FileCheck, header: &[u8], part: &[u8]) -> 
     let read_len = read.end.saturating_sub(header.len()).min(part.len());
     check.records = check.records.saturating_add(read.records);
     check.end += read_len;
-    check.stop = read.stop;
+    check.stop = read.stop.take();
     let left = size - check.end;
     let wanted = wanted_behind(&part[read_len..], left)?;
     Some(wanted.max(PART_LEN).min(left))
 }
 
-// Whether only zeros stand in the file from a place on.
+// Whether the file has only zeros from a place on.
 fn has_zeros<S: PartSource>(
     alloc: Global,
     path: &str,
@@ -163,7 +163,7 @@ fn has_zeros<S: PartSource>(
     Ok(true)
 }
 
-// Whether the first record behind those that can be read is signed for an earlier file.
+// Whether the first record after those that can be read is signed for an earlier file.
 fn search_rest<S: PartSource>(
     alloc: Global,
     check: &FileCheck,

@@ -28,35 +28,32 @@ use Rattle.raft_purge_steps.specs.declared.log.Log.{Log}
 use Rattle.raft_rewrite.specs.OpenGroup.{HasNoId, IsAtomicRefusal}
 use Rattle.raft_stale.specs.Dropping.{IfFails, KeepsFront}
 
--- why a purge fails that writes atomic groups: also where no id is left for one
+-- why a purge that writes atomic groups fails: IsAtomicRefusal, or no id is left
 abbrev pub IsRenewRefusal : GroupsMet → DualState → DualState → Directory → Refusals → Refusals
     → (Fault → Type 0) → StepFault → Type 0
 IsRenewRefusal groups d d' n' old new IsUnfit =
     IsAtomicRefusal d d' n' old new (λ e. HasNoId groups e ⊎ IsUnfit e)
 
--- why one fails that writes marks that are owed: also where these, with such tables, have no record
+-- why a purge that writes owed marks fails: IsPurgeRefusal, or such marks have no record
 abbrev pub IsOwedRefusal : Tables → Owed → DualState → DualState → Directory → Refusals → Refusals
     → (Fault → Type 0) → StepFault → Type 0
 IsOwedRefusal t owed d d' n' old new IsUnfit =
     IsPurgeRefusal d d' n' old new (λ e. HaveOwedNoRecord t owed e ⊎ IsUnfit e)
 
--- .. and atomic groups too
+-- why a purge that writes atomic groups and owed marks fails: a cause of either
 abbrev pub IsExpiredRefusal : Tables → Owed → GroupsMet → DualState → DualState → Directory → Refusals
     → Refusals → (Fault → Type 0) → StepFault → Type 0
 IsExpiredRefusal t owed groups d d' n' old new IsUnfit =
     IsRenewRefusal groups d d' n' old new (λ e. HaveOwedNoRecord t owed e ⊎ IsUnfit e)
 
--- one of these stands in memory for the log
+-- the log holds this value, under one of these indexes
 abbrev pub IsLogBy : {X : Type 0} → (X → LogIndex) → DualState → Directory → LogValue → Type 0
 IsLogBy {X} i d n v = (x : X) × IsLog (log_by d (i x) n) v
 
--- on files of which these are the directory, its moments and the refusals of calls
+-- for files with this directory, these moments inside calls, and these counts of failed calls
 module _ {F : Type 0} (directory : F → Directory) (moments : F → List Directory)
     (refusals_of : F → Refusals) where
-  -- a purge keeps the log, whichever of these stand for it in memory. It answers how many files of a
-  -- queue it drops; where the log is in doubt that begins as before. The batches that were written are
-  -- cut so, and unless the log is in doubt the blocks that are kept are the log's. `Why` says why it
-  -- fails, of what it can't write
+  -- the purge keeps the log, returns how many of its queue's files it dropped, and fails for `Why`
   pub record Purges {X L : Type 0} {g : Ghosts L} (queue : LogQueue)
       (Why : DualState → DualState → Directory → Refusals → Refusals → (Fault → Type 0) → StepFault
       → Type 0)
@@ -72,7 +69,7 @@ module _ {F : Type 0} (directory : F → Directory) (moments : F → List Direct
         (IsUnfitWhere (IsLogBy i d (directory old))))
 
 module _ {F H R W : Type 0} (fs : FsGhosts F H R W) where
-  -- Purges, of two logs
+  -- Purges, from one log to another
   abbrev pub PurgesBy : {X L : Type 0} → {g : Ghosts L} → LogQueue
       → (DualState → DualState → Directory → Refusals → Refusals → (Fault → Type 0) → StepFault
       → Type 0)
@@ -82,22 +79,20 @@ module _ {F H R W : Type 0} (fs : FsGhosts F H R W) where
       fs.refusals_of queue Why IsCutSo result i i' l.store.pipes l'.store.pipes l'.cache
       l.store.file_system l'.store.file_system events events'
 
-  -- a purge of the Append queue, with the marks that are owed, whatever is known of atomic groups
+  -- a purge of the Append queue that writes owed marks, whatever the known atomic groups are
   abbrev pub PurgesAppend : {L : Type 0} → {g : Ghosts L} → Result ℕ StepFault → Log F H R W
       → Log F H R W → PurgeEvents L g → PurgeEvents L g → Type 0
   PurgesAppend result l l' events events' =
       PurgesBy Append (IsOwedRefusal (tables_of l'.tables) (owed_of l.owed)) AddsRest result
       (by_groups_of l) (by_groups_of l') l l' events events'
 
-  -- a purge of the Rewrite queue, which writes atomic groups too, whichever marks are owed
+  -- a purge of the Rewrite queue that writes atomic groups, whatever the owed marks are
   abbrev pub PurgesRewrite : {L : Type 0} → {g : Ghosts L} → Result ℕ StepFault → Log F H R W
       → Log F H R W → PurgeEvents L g → PurgeEvents L g → Type 0
   PurgesRewrite result l l' events events' = PurgesBy Rewrite (IsRenewRefusal l'.groups) AddsRest
       result (by_marks_of l) (by_marks_of l') l l' events events'
 
-  -- what groups have is written to the Rewrite queue again, and the Append queue's pipe is the same.
-  -- All batches that were written but one are full, and unless the log is in doubt the blocks that are
-  -- kept are the log's
+  -- groups are written to the Rewrite queue again; at most one more written batch is not full
   pub record WritesAgain {T L : Type 0} {g : Ghosts L} (result : Result T StepFault)
       (l l' : Log F H R W) (events events' : PurgeEvents L g) : Type 0 where
     pub keeps : KeepsRewriting result l.store.pipes l'.store.pipes events events'

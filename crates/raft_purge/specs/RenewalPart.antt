@@ -15,25 +15,25 @@ use Rattle.raft_purge.specs.UnderWay.{IsUnderWay}
 use Rattle.raft_purge.specs.declared.renewal_groups.NewFiles.{NewFiles}
 use Rattle.raft_purge.specs.declared.renewal_groups.RenewalPart.{RenewalPart}
 
--- the first of the new files of the Rewrite queue, or the one behind its last file
+-- the first of the new files, or the file after the queue's last one if there are none
 abbrev pub first_new : Option NewFiles → PipeState → ℕ
 first_new None p = suc (last_seq p)
 first_new (Some files) p = files.first
 
--- the new files, which are begun where there are none
+-- the new files; if there are none, they begin after the queue's last one
 abbrev pub files_new : Option NewFiles → PipeState → GroupsMet → NewFiles
 files_new files p groups = unwrap_or files (record { first = suc (last_seq p); groups = groups })
 
--- the new files behind a call, which begins with these where there are none: none behind the last groups
+-- the new files that a call leaves for the next one: none after the last groups
 abbrev pub files_behind : RenewalPart → NewFiles → Option NewFiles
 files_behind part next = if part.is_last then None else Some (unwrap_or part.files next)
 
--- a bound of the ids of atomic groups in the old ones
+-- a bound of the ids of atomic groups in the old files
 abbrev pub bound_new : Option NewFiles → GroupsMet → ℕ
 bound_new None groups = ids_bound groups.ids
 bound_new (Some files) groups = ids_bound files.groups.ids
 
--- a rewriting with these new files is under way
+-- a rewriting of the Rewrite queue into these new files is under way
 abbrev pub GoesOnWith : NewFiles → DualState → Tables → KnownGroups → Directory → Type 0
 GoesOnWith files d t met n = IsUnderWay files.first (ids_bound files.groups.ids) d t met n
 
@@ -42,14 +42,12 @@ abbrev pub MayGoOnWith : Option NewFiles → DualState → Tables → KnownGroup
 MayGoOnWith None d t met n = Unit {0}
 MayGoOnWith (Some files) d t met n = GoesOnWith files d t met n
 
--- of these groups nothing stands in the files before the first new one, nor of those of which nothing
--- stood there
+-- these groups have nothing before the first new file, nor do groups that had nothing there
 abbrev pub AreRenewed : ℕ → RenewalPart → Tables → Tables → Type 0
 AreRenewed first part t t' = (group : ℕ)
     → (list_any (nat_eq group) part.groups.items ≡ true) ⊎ IsAllFrom first (or_empty (t group))
     → IsAllFrom first (or_empty (t' group))
 
--- with which file the Rewrite queue begins behind the last groups: the old files go all together, where
--- nothing stands in any and the batches of each atomic group stand together
+-- the queue's first file: old ones are gone if unreferenced and atomic groups are adjacent
 abbrev pub first_kept : ℕ → Bool → MemTables → PipeState → ℕ
 first_kept first together m p = if together && is_free_before first m then first else p.first

@@ -1,4 +1,4 @@
--- A rewriting of the Rewrite queue that goes on in later calls, told by pipes, tables and files alone.
+-- A rewriting of the Rewrite queue over several calls, described by pipes, tables and files only.
 use Rattle.std.specs.Prelude.{◌≡◌, ◌≤◌, ◌++◌, ℕ, true, List, None}
 use Rattle.raft_base.specs.declared.pipe_log.LogQueue.TheVariants.{Rewrite}
 use Rattle.raft_env.specs.Directory.{Directory}
@@ -19,8 +19,7 @@ use Rattle.raft_crash_laws.specs.Renewal.{Renewal, new_batches, old_batches}
 use Rattle.raft_purge_steps.specs.Renewing.{renewed_log}
 use Rattle.raft_purge_steps.specs.Steps.{IsLog, LogValue, log_of}
 
--- of batches in files of these numbers those from the first new one on hold what the tables place there;
--- atomic groups have ids from the bound on there, and lesser ones with batches that stand together before
+-- new files hold what the tables place there; only old ones have group ids below the bound
 pub record HaveNewFiles (blocks : Blocks) (numbered : List FileBatch) (first bound : ℕ) (t : Tables)
     : Type 0 where
   pub together : StandTogether (old_batches first numbered)
@@ -28,7 +27,7 @@ pub record HaveNewFiles (blocks : Blocks) (numbered : List FileBatch) (first bou
   pub new_ids : HasIdsFrom bound (new_batches first numbered)
   pub holds : HoldsFrom blocks first (effect (new_batches first numbered)) t
 
--- so it is of the Rewrite queue's files, where the batches of each atomic group stand together
+-- the Rewrite queue has new files from this one on; HaveNewFiles if atomic groups are adjacent
 pub record IsUnderWay (first bound : ℕ) (d : DualState) (t : Tables) (met : KnownGroups) (n : Directory)
     : Type 0 where
   pub behind : d.rewrite.first ≤ first
@@ -40,7 +39,7 @@ pub record IsUnderWay (first bound : ℕ) (d : DualState) (t : Tables) (met : Kn
       met.are_together ≡ true → ∥ ((blocks : Blocks) → HasBothBlocks d n blocks
       → HaveNewFiles blocks (batches_by_file Rewrite d n) first bound t) ∥₁
 
--- what is written anew then
+-- a renewal from this file on, with this bound of old ids and no open group
 abbrev pub renewal_at : ℕ → ℕ → KnownGroups → Renewal
 renewal_at first bound met = record {
   first = first;
@@ -49,7 +48,7 @@ renewal_at first bound met = record {
   begun = None;
 }
 
--- a plain log is one that is being written anew from now on, with these new files
+-- a plain log is in a renewal with these new files, and keeps its value
 abbrev pub ContinuesRenewal : ℕ → ℕ → DualState → DualState → Tables → KnownGroups → Directory
     → Directory → Type 0
 ContinuesRenewal first bound d d' t met old new = (owed : Owed) (v : LogValue)

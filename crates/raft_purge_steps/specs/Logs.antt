@@ -33,44 +33,44 @@ abbrev pub BetweenTables : {F H R W : Type 0} → (Tables → Tables → Type 0)
     → Log F H R W → Type 0
 BetweenTables R l l' = R (tables_of l.tables) (tables_of l'.tables)
 
--- the index of a log, whatever is known of atomic groups
+-- the index of a log, with these known atomic groups in place of its own
 abbrev pub by_groups_of : {F H R W : Type 0} → Log F H R W → KnownGroups → LogIndex
 by_groups_of l = by_groups (tables_of l.tables) (owed_of l.owed)
 
--- the same, whichever marks are owed
+-- the index of a log, with these owed marks in place of its own
 abbrev pub by_marks_of : {F H R W : Type 0} → Log F H R W → Owed → LogIndex
 by_marks_of l = by_marks (tables_of l.tables) (known_groups l.groups)
 
 module _ {F H R W : Type 0} (fs : Ghosts F H R W) where
-  -- what a purge works on
+  -- the PurgedLog of a log: its pipes, its index and its files
   abbrev pub log_in : Log F H R W → PurgedLog
   log_in l = log_of l.store.pipes (tables_of l.tables) (owed_of l.owed) (known_groups l.groups)
       (files_of fs l.store)
 
-  -- kept blocks of files that are left are blocks of those files
+  -- kept blocks of files that are left have the bytes of those files
   abbrev pub HoldsRest : Log F H R W → Type 0
   HoldsRest l = HoldsRestIn l.store.pipes (files_of fs l.store) l.cache
 
-  -- this holds of the pipes, the tables, what is known of atomic groups, and the files
+  -- P holds of the log's pipes, tables, known atomic groups and files
   abbrev pub InLog : (DualState → Tables → KnownGroups → Directory → Type 0) → Log F H R W → Type 0
   InLog P l = P l.store.pipes (tables_of l.tables) (known_groups l.groups) (files_of fs l.store)
 
-  -- the log, which is being written anew, holds this value
+  -- the log is in a renewal with no open group, and holds this value
   abbrev pub MayRenew : Log F H R W → LogValue → Type 0
   MayRenew l =
       MayRenewLog l.store.pipes (tables_of l.tables) (known_groups l.groups) (files_of fs l.store)
 
-  -- this holds of those of one log and those of another
+  -- P holds of the pipes, tables, known atomic groups and files of one log and another
   abbrev pub BetweenLogs : (DualState → DualState → Tables → Tables → KnownGroups → KnownGroups
       → Directory → Directory → Type 0) → Log F H R W → Log F H R W → Type 0
   BetweenLogs P l l' = P l.store.pipes l'.store.pipes (tables_of l.tables) (tables_of l'.tables)
       (known_groups l.groups) (known_groups l'.groups) (files_of fs l.store) (files_of fs l'.store)
 
-  -- the log holds this value, and owes no clean mark
+  -- the log, with these owed marks and known groups, holds this value and owes no clean mark
   abbrev pub CleanLog : Log F H R W → Owed → KnownGroups → LogValue → Type 0
   CleanLog l = IsCleanLog l.store.pipes (tables_of l.tables) (files_of fs l.store)
 
-  -- a step takes each log of which the first holds to one of which the second holds
+  -- Carries, from one log to another: logs with P become logs with Q
   abbrev pub CarriesLog : {T : Type 0} → Result T StepFault → (Owed → KnownGroups → LogValue → Type 0)
       → (Owed → KnownGroups → LogValue → Type 0) → Log F H R W → Log F H R W → Type 0
   CarriesLog result P Q l l' = Carries fs.directory fs.moments fs.refusals_of result P Q

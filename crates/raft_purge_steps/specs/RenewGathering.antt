@@ -1,10 +1,10 @@
--- What a purge gathers of the Rewrite queue, group by group, while that is written anew.
+-- What a renewal gathers of the Rewrite queue, group by group.
 use Rattle.raft_tables.specs.Owed.{Owed}
 use Rattle.raft_crash_laws.specs.Log.{KnownGroups}
 use Rattle.raft_crash_laws.specs.Renewal.{Renewal}
 use Rattle.raft_purge_steps.specs.Steps.{LogValue}
 
--- of all of which the one is so, the other is so too
+-- Q holds of all marks, groups, renewals and log values of which P holds
 abbrev pub RenewsOn : (Owed → KnownGroups → Renewal → LogValue → Type 0)
     → (Owed → KnownGroups → Renewal → LogValue → Type 0) → Type 0
 RenewsOn P Q =

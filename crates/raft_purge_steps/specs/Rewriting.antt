@@ -10,10 +10,10 @@ use Rattle.raft_tables.specs.Owed.{Owed}
 use Rattle.raft_tables.specs.Tables.{Tables}
 use Rattle.raft_crash_laws.specs.Queues.{HasBothBlocks}
 
--- the batch is what was gathered from the tables, up to a watermark of the Append queue or of the
--- Rewrite queue, with the bytes that stand in the files
+-- the batch was gathered from the tables, up to a watermark or (`None`) of the Rewrite queue
 pub record WasGathered (watermark : Option ℕ) (d : DualState) (n : Directory) (owed : Owed)
     (t : Tables) (batch : Batch) : Type 0 where
   pub items : List PlacedItem
   pub gathered : IsGathered watermark owed t items
+  -- its entries have the bytes that the files hold
   pub same : (blocks : Blocks) → HasBothBlocks d n blocks → batch ≡ map (item_in blocks) items

@@ -1,4 +1,4 @@
--- What a step that goes on to a next file of a queue makes of the log.
+-- What a step that may begin a queue's next file does to the log.
 use Rattle.std.specs.Prelude.{◌≡◌, IfErr, List, OnOk, Result}
 use Rattle.raft_base.specs.declared.pipe_log.LogQueue.{LogQueue}
 use Rattle.raft_env.specs.Directory.{Directory}
@@ -9,13 +9,10 @@ use Rattle.raft_purge_steps.specs.Faults.{IsPurgeRefusal, KeepsFolders}
 use Rattle.raft_purge_steps.specs.Steps.{IfStands, KeepsEachLog, KeepsEachLogAt}
 use Rattle.raft_purge_steps.specs.declared.fault.StepFault.{StepFault}
 
--- on files of which these are the directory, its moments and the refusals of calls
+-- for files with this directory, these moments inside calls, and these counts of failed calls
 module _ {F : Type 0} (directory : F → Directory) (moments : F → List Directory)
     (refusals_of : F → Refusals) where
-  -- the other queue's pipe is the same, and this one begins with the same file; where it is
-  -- answered, both are in the same folders. Unless the log is in doubt it holds what it held,
-  -- whatever stands for it in memory, and at each moment a crash finds that. Nothing is written
-  -- that could be unfit
+  -- the queue may get a next file; the log is kept, unless the step fails with `Fails`
   pub record Rotates {T : Type 0} (queue : LogQueue) (result : Result T StepFault)
       (d d' : DualState) (old new : F) : Type 0 where
     pub others : KeepsOtherPipe queue d d'

@@ -1,12 +1,13 @@
 //! The holes in the log files of a folder.
 
-use crate::stored::HEADER;
+use crate::failing::Failing;
+use crate::folders::{HEADER, stores_all};
 use crate::told::{assert_at, assert_row};
+use crate::tried::{Tried, holds_in_memory};
 use raft_consistency::{consistency_check, consistency_check_with_file_system};
-use raft_env::FileSystem;
 use raft_memory::MemoryFileSystem;
 use raft_records::Fault;
-use raft_rows::store_in;
+use raft_rows::FileParts;
 use std::alloc::Global;
 
 // Records of entries without bytes, by Python's struct and zlib.
@@ -31,20 +32,17 @@ const FOUR: &[u8] =
 const ONE_AND_THREE: &[u8] =
     b"\x00\x00\x00\x00\x00\x00\x1f\x00\x00\x00\x00\x00\x00\x00\x00\x10\x02\x07\x01\x01\x01\x00\x07\x01\x01\x03\x00\xbd\x8e\xe2\x8c";
 
-/// A file's path and its bytes.
-pub(crate) type Stored = (&'static str, &'static [&'static [u8]]);
+pub(crate) const APPEND_1: FileParts = ("data/0000000000000001.raftlog", &[HEADER, ONE_TO_THREE]);
 
-pub(crate) const APPEND_1: Stored = ("data/0000000000000001.raftlog", &[HEADER, ONE_TO_THREE]);
+pub(crate) const APPEND_2: FileParts = ("data/0000000000000002.raftlog", &[HEADER, SIX]);
 
-pub(crate) const APPEND_2: Stored = ("data/0000000000000002.raftlog", &[HEADER, SIX]);
-
-pub(crate) const APPEND_3: Stored = ("data/0000000000000003.raftlog", &[HEADER, ONE_AND_FOUR]);
+pub(crate) const APPEND_3: FileParts = ("data/0000000000000003.raftlog", &[HEADER, ONE_AND_FOUR]);
 
 /// Log files, the folder that is looked through, and the groups with holes in it, or the code
 /// with which that is refused.
-struct Case {
+pub(crate) struct Case {
     name: &'static str,
-    stored: &'static [Stored],
+    stored: &'static [FileParts],
     path: &'static str,
     wanted: Result<&'static [(u64, u64)], u8>,
 }
@@ -104,20 +102,6 @@ static CASES: [Case; 7] = [
     },
 ];
 
-/// Puts these files into the folder `data`.
-pub(crate) fn store_all<F: FileSystem>(
-    alloc: Global,
-    fs: &mut F,
-    stored: &[Stored],
-) -> Result<(), Fault> {
-    for (path, parts) in stored {
-        if let Err(fault) = store_in(fs, "data", path, parts) {
-            return Err(fault.with_path(alloc, path));
-        }
-    }
-    Ok(())
-}
-
 // Whether a check came to what is wanted.
 fn is_wanted<F: Drop>(
     found: Result<(Vec<(u64, u64)>, F), (Fault, F)>,
@@ -130,32 +114,30 @@ fn is_wanted<F: Drop>(
     }
 }
 
-fn is_as_said<F: FileSystem + Drop>(
-    alloc: Global,
-    mut files: F,
-    case: &Case,
-) -> Result<bool, Fault> {
-    store_all(alloc, &mut files, case.stored)?;
+pub(crate) fn is_found<F: Failing>(alloc: Global, case: &Case) -> bool {
+    let mut files = F::fresh(alloc);
+    if !stores_all(&mut files, case.stored) {
+        return false;
+    }
     let found = consistency_check_with_file_system(alloc, case.path, files);
-    Ok(is_wanted(found, &case.wanted))
-}
-
-fn is_found(alloc: Global, case: &Case) -> Result<bool, Fault> {
-    is_as_said(alloc, MemoryFileSystem::new(alloc), case)
+    is_wanted(found, &case.wanted)
 }
 
 // The same by the check of files in memory.
-fn is_found_in_memory(alloc: Global, case: &Case) -> Result<bool, Fault> {
+fn is_found_in_memory(alloc: Global, case: &Case) -> bool {
     let mut files = MemoryFileSystem::new(alloc);
-    store_all(alloc, &mut files, case.stored)?;
+    if !stores_all(&mut files, case.stored) {
+        return false;
+    }
     let found = consistency_check(alloc, case.path, files);
-    Ok(is_wanted(found, &case.wanted))
+    is_wanted(found, &case.wanted)
 }
 
 #[test]
 fn holes_are_found_in_folders(rt: HostRuntime) {
     for (place, case) in CASES.iter().enumerate() {
-        assert_row(&rt, is_found(rt.alloc(), case), case.name);
+        let held = holds_in_memory(rt.alloc(), &Tried::Holes(case));
+        assert_row(&rt, held, case.name);
         assert_at(&rt, is_found_in_memory(rt.alloc(), case), case.name, place);
     }
 }

@@ -106,7 +106,7 @@ fn machine_of(alloc: Global, queue: LogQueue, steps: &[Step]) -> Result<Recovery
     Ok(machine)
 }
 
-/// The machine of the Append queue, where the chunks are given to a machine each, or to one.
+/// The machine of the Append queue, if the chunks are given to a machine each, or to one.
 fn appended(alloc: Global, case: &Case, apart: bool) -> Result<RecoveryMachine, Fault> {
     let mut appended = machine_of(alloc, LogQueue::Append, case.older)?;
     if apart {
@@ -127,10 +127,20 @@ fn is_as_said(case: &Case, read: &Read) -> bool {
     indexes == case.indexes && tables.get(GROUP, KEY).is_some() == case.has_key
 }
 
-fn is_read(alloc: Global, case: &Case, apart: bool) -> Result<bool, Fault> {
-    let rewritten = machine_of(alloc, LogQueue::Rewrite, case.rewritten)?;
-    let read = read_of(&InOrder, appended(alloc, case, apart)?, rewritten)?;
-    Ok(is_as_said(case, &read))
+// Whether what is read comes to what the case says.
+fn comes_to(case: &Case, read: Result<Read, Fault>) -> bool {
+    match read {
+        Ok(read) => is_as_said(case, &read),
+        Err(_) => false,
+    }
+}
+
+fn is_read(alloc: Global, case: &Case, apart: bool) -> bool {
+    let rewritten = machine_of(alloc, LogQueue::Rewrite, case.rewritten);
+    match (appended(alloc, case, apart), rewritten) {
+        (Ok(appended), Ok(rewritten)) => comes_to(case, read_of(&InOrder, appended, rewritten)),
+        _ => false,
+    }
 }
 
 #[test]
@@ -141,16 +151,17 @@ fn chunks_are_read_as_one(rt: HostRuntime) {
     }
 }
 
-fn is_joined<R: Threads + Sync>(
-    rt: &R,
-    alloc: Global,
-    case: &Case,
-    threads: usize,
-) -> Result<bool, Fault> {
-    let rewritten = machine_of(alloc, LogQueue::Rewrite, case.rewritten)?;
-    let appended = appended(alloc, case, true)?;
-    let read = read_of(&SideBySide { rt, threads }, appended, rewritten)?;
-    Ok(is_as_said(case, &read))
+fn is_joined<R: Threads + Sync>(rt: &R, alloc: Global, case: &Case, threads: usize) -> bool {
+    let rewritten = machine_of(alloc, LogQueue::Rewrite, case.rewritten);
+    match (appended(alloc, case, true), rewritten) {
+        (Ok(appended), Ok(rewritten)) => {
+            comes_to(
+                case,
+                read_of(&SideBySide { rt, threads }, appended, rewritten),
+            )
+        }
+        _ => false,
+    }
 }
 
 #[test]

@@ -3,16 +3,16 @@
 ghost use Rattle.std.specs.Prelude.{IfOk, OnOk};
 ghost use Rattle.raft_queues.specs.Dual.{StandSideBySide};
 
-use crate::crashed_rows::{Case, Left, ONE_EACH, Opening, Stage, Step, cases, openings};
+use crate::crashed_rows::{Case, Left, ONE_EACH, Opening, Step, cases, openings};
 use crate::failing::Failing;
 use crate::folders::begun;
 use crate::keys::Keys;
 use crate::told::assert_row;
-use crate::two_queues::{code_of, finished};
-use LogQueue::{Append, Rewrite};
-use raft_builder::{DefaultMachineFactory, DualPipesBuilder};
+use crate::tried::{Tried, holds_in_memory};
+use crate::two_queues::{code_of, read_keys, staged};
+use raft_builder::DualPipesBuilder;
 use raft_env::{FileSystem, IoKind};
-use raft_memory::{Choice, MemoryFileSystem};
+use raft_memory::Choice;
 use raft_pipes::{AppendFault, RotationFault};
 use raft_queues::DualPipes;
 use raft_records::{Fault, Fresh, LogBatch, LogQueue};
@@ -24,17 +24,17 @@ const TARGET: usize = 1024;
 /// No case has more files.
 const FILES: usize = 5;
 
-// The keys of the Append queue, and those of the Rewrite queue.
-fn recover<F: FileSystem>(
+/// The keys that an opening finds in both queues.
+pub(crate) fn recover<F: FileSystem>(
     alloc: Global,
     builder: &mut DualPipesBuilder<F>,
 ) -> Result<(Keys, Keys), Fault> {
     builder.scan()?;
-    builder.recover_in_order(&DefaultMachineFactory::new(alloc))
+    read_keys(alloc, builder)
 }
 
-// Opens both queues; what is read of each goes to its machine.
-fn opened<F: FileSystem + Drop>(
+/// Opens both queues; what is read of each goes to its machine.
+pub(crate) fn opened<F: FileSystem + Drop>(
     alloc: Global,
     fs: F,
     keys: &mut (Keys, Keys),
@@ -119,7 +119,7 @@ fn take_each<F: FileSystem>(
     Ok(())
 }
 
-fn no_keys(alloc: Global) -> (Keys, Keys) {
+pub(crate) fn no_keys(alloc: Global) -> (Keys, Keys) {
     (Keys::fresh(alloc), Keys::fresh(alloc))
 }
 
@@ -141,90 +141,21 @@ fn reads<F: FileSystem + Drop>(
     fs: F,
     in_append: &[(u64, u8)],
     in_rewrite: &[(u64, u8)],
-) -> Result<Option<F>, Fault> {
+) -> Option<F> {
     let mut keys = no_keys(alloc);
-    let (pipes, fs) = opened(alloc, fs, &mut keys)?;
-    drop(pipes);
-    let (append, rewrite) = &keys;
-    let are_same = append.found.as_slice() == in_append && rewrite.found.as_slice() == in_rewrite;
-    Ok(are_same.then_some(fs))
-}
-
-fn is_refused(answer: Result<(), Fault>, code: u8) -> bool {
-    match answer {
-        Ok(()) => false,
-        Err(fault) => fault.code() == code,
-    }
-}
-
-// Whether one batch, with one key, is read of the queue, or reading it fails with the code.
-fn reads_one<F: FileSystem>(
-    alloc: Global,
-    builder: &mut DualPipesBuilder<F>,
-    queue: LogQueue,
-    code: Option<u8>,
-) -> Result<bool, Fault> {
-    let mut machine = Keys::fresh(alloc);
-    let answer = builder.recover_queue_in_order(queue, &mut machine);
-    if let Some(code) = code {
-        return Ok(is_refused(answer, code));
-    }
-    answer?;
-    Ok(machine.found.len() == 1)
-}
-
-// Whether the stage comes to what it says.
-fn holds<F: FileSystem>(
-    alloc: Global,
-    builder: &mut DualPipesBuilder<F>,
-    stage: &Stage,
-) -> Result<bool, Fault> {
-    match stage {
-        Stage::Scan => {
-            builder.scan()?;
-            Ok(true)
+    match opened(alloc, fs, &mut keys) {
+        Ok((pipes, fs)) => {
+            drop(pipes);
+            let (append, rewrite) = &keys;
+            let are_same = append.found.as_slice() == in_append
+                && rewrite.found.as_slice() == in_rewrite;
+            if are_same { Some(fs) } else { None }
         }
-        Stage::ScanRefused(code) => Ok(is_refused(builder.scan(), *code)),
-        Stage::Read(queue) => reads_one(alloc, builder, *queue, None),
-        Stage::ReadRefused(queue, code) => reads_one(alloc, builder, *queue, Some(*code)),
+        Err(_) => None,
     }
 }
 
-fn all_hold<F: FileSystem>(
-    alloc: Global,
-    builder: &mut DualPipesBuilder<F>,
-    stages: &[Stage],
-) -> Result<bool, Fault> {
-    let mut are_right = true;
-    for stage in stages {
-        are_right = holds(alloc, builder, stage)? && are_right;
-    }
-    Ok(are_right)
-}
-
-// The files after the stages, if these and the end come to what they say.
-fn staged<F: FileSystem + Drop>(
-    alloc: Global,
-    fs: F,
-    opening: &Opening,
-) -> Result<Option<F>, Fault> {
-    let mut builder = begun(alloc, fs)?;
-    let held = all_hold(alloc, &mut builder, opening.stages);
-    let (ended, fs) = finished(builder);
-    if held? && code_of(ended) == opening.finished {
-        Ok(Some(fs))
-    } else {
-        Ok(None)
-    }
-}
-
-// The files after a crash and an opening, if it reads the keys of the case.
-fn reads_after<F: Failing>(
-    alloc: Global,
-    fs: &F,
-    left: &Left,
-    case: &Case,
-) -> Result<Option<F>, Fault> {
+fn choices(alloc: Global, left: &Left) -> Result<Vec<Choice>, Fault> {
     let mut choices = Vec::new(alloc);
     for _ in 0..FILES {
         choices.push(match left {
@@ -233,44 +164,65 @@ fn reads_after<F: Failing>(
             Left::Torn(kept, fill) => Choice::Torn(*kept, *fill),
         })?;
     }
-    let crashed = fs.crashed(&choices)?;
-    reads(alloc, crashed, case.append, case.rewrite)
+    Ok(choices)
 }
 
-// What was found stays: it is read once more after another crash.
-fn is_as_said<F: Failing>(alloc: Global, case: &Case) -> Result<bool, Fault> {
-    let fs = written(alloc, F::fresh(alloc), case.steps)?;
-    match reads_after(alloc, &fs, &case.left, case)? {
-        Some(found) => Ok(reads_after(alloc, &found, &Left::Synced, case)?.is_some()),
-        None => Ok(false),
+// What a crash leaves.
+fn crashed<F: Failing>(alloc: Global, fs: &F, left: &Left) -> Result<F, Fault> {
+    fs.crashed(&choices(alloc, left)?)
+}
+
+// The files after a crash and an opening, if it reads the keys of the case.
+fn reads_after<F: Failing>(alloc: Global, fs: &F, left: &Left, case: &Case) -> Option<F> {
+    match crashed(alloc, fs, left) {
+        Ok(crashed) => reads(alloc, crashed, case.append, case.rewrite),
+        Err(_) => None,
     }
 }
 
-fn is_said_in_memory(alloc: Global, case: &Case) -> Result<bool, Fault> {
-    is_as_said::<MemoryFileSystem>(alloc, case)
+/// What was found stays: it is read once more after another crash.
+pub(crate) fn is_as_said<F: Failing>(alloc: Global, case: &Case) -> bool {
+    let found = match written(alloc, F::fresh(alloc), case.steps) {
+        Ok(fs) => reads_after(alloc, &fs, &case.left, case),
+        Err(_) => None,
+    };
+    match found {
+        Some(found) => reads_after(alloc, &found, &Left::Synced, case).is_some(),
+        None => false,
+    }
 }
 
-// Both queues are read afterwards as they were written.
-fn ends_as_said<F: Failing>(alloc: Global, opening: &Opening) -> Result<bool, Fault> {
+// Files of both queues, over which the opening's call is refused.
+fn refusing<F: Failing>(alloc: Global, opening: &Opening) -> Result<F, Fault> {
     let mut fs = written(alloc, F::fresh(alloc), &ONE_EACH)?;
     if let Some((call, nth)) = opening.refused {
         fs.fail(call, nth, IoKind::NoSpace)?;
     }
-    let Some(left) = staged(alloc, fs, opening)? else {
-        return Ok(false);
-    };
-    Ok(reads(alloc, left, &[(1, b'a')], &[(1, b'b')])?.is_some())
+    Ok(fs)
 }
 
-fn ends_in_memory(alloc: Global, opening: &Opening) -> Result<bool, Fault> {
-    ends_as_said::<MemoryFileSystem>(alloc, opening)
+/// Both queues are read afterwards as they were written.
+pub(crate) fn ends_as_said<F: Failing>(alloc: Global, opening: &Opening) -> bool {
+    let refusing: Result<F, Fault> = refusing(alloc, opening);
+    let done = match refusing {
+        Ok(fs) => staged(alloc, fs, opening.stages),
+        Err(_) => None,
+    };
+    match done {
+        Some((ended, left)) => {
+            code_of(ended) == opening.finished
+                && reads(alloc, left, &[(1, b'a')], &[(1, b'b')]).is_some()
+        }
+        None => false,
+    }
 }
 
 #[test]
 fn crashed_queues_are_read_in_stages(rt: HostRuntime) {
     for cases in &cases() {
         for case in *cases {
-            assert_row(&rt, is_said_in_memory(rt.alloc(), case), case.name);
+            let held = holds_in_memory(rt.alloc(), &Tried::Crash(case));
+            assert_row(&rt, held, case.name);
         }
     }
 }
@@ -278,6 +230,7 @@ fn crashed_queues_are_read_in_stages(rt: HostRuntime) {
 #[test]
 fn an_opening_ends_once_all_is_read(rt: HostRuntime) {
     for opening in openings() {
-        assert_row(&rt, ends_in_memory(rt.alloc(), opening), opening.name);
+        let held = holds_in_memory(rt.alloc(), &Tried::End(opening));
+        assert_row(&rt, held, opening.name);
     }
 }

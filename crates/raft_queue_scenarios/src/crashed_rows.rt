@@ -1,5 +1,6 @@
 //! Both queues of a folder, crashed or opened in stages, as rows: what is done, and what is read of each queue.
 
+use crate::two_queues::Step as Stage;
 use LogQueue::{Append, Rewrite};
 use raft_memory::FsCall;
 use raft_records::LogQueue;
@@ -143,15 +144,6 @@ pub(crate) fn cases() -> [&'static [Case]; 2] {
     [&IN_ONE_FILE, &IN_MORE]
 }
 
-pub(crate) enum Stage {
-    Scan,
-    /// The scan fails with this code.
-    ScanRefused(u8),
-    Read(LogQueue),
-    /// Reading the queue fails with this code.
-    ReadRefused(LogQueue, u8),
-}
-
 /// The two queues that each opening finds.
 pub(crate) const ONE_EACH: [Step; 2] = [
     Step::Put(Append, b'a', true),
@@ -177,13 +169,13 @@ static STAGED_ROWS: [Opening; 10] = [
     Opening {
         name: "the Append queue is unread",
         refused: None,
-        stages: &[Stage::Scan, Stage::Read(Rewrite)],
+        stages: &[Stage::Scan, Stage::Read(Rewrite, 1)],
         finished: Some(15),
     },
     Opening {
         name: "the Rewrite queue is unread",
         refused: None,
-        stages: &[Stage::Scan, Stage::Read(Append)],
+        stages: &[Stage::Scan, Stage::Read(Append, 1)],
         finished: Some(15),
     },
     Opening {
@@ -191,8 +183,8 @@ static STAGED_ROWS: [Opening; 10] = [
         refused: None,
         stages: &[
             Stage::Scan,
-            Stage::Read(Append),
-            Stage::Read(Rewrite),
+            Stage::Read(Append, 1),
+            Stage::Read(Rewrite, 1),
             Stage::Scan,
         ],
         finished: Some(15),
@@ -202,8 +194,8 @@ static STAGED_ROWS: [Opening; 10] = [
         refused: Some((FsCall::List, 4)),
         stages: &[
             Stage::Scan,
-            Stage::Read(Append),
-            Stage::Read(Rewrite),
+            Stage::Read(Append, 1),
+            Stage::Read(Rewrite, 1),
             Stage::ScanRefused(3),
             Stage::ReadRefused(Append, 15),
         ],
@@ -235,8 +227,8 @@ static STAGED_ROWS: [Opening; 10] = [
         stages: &[
             Stage::ScanRefused(3),
             Stage::Scan,
-            Stage::Read(Rewrite),
-            Stage::Read(Append),
+            Stage::Read(Rewrite, 1),
+            Stage::Read(Append, 1),
         ],
         finished: None,
     },
@@ -245,7 +237,7 @@ static STAGED_ROWS: [Opening; 10] = [
         refused: Some((FsCall::NewReader, 2)),
         stages: &[
             Stage::Scan,
-            Stage::Read(Append),
+            Stage::Read(Append, 1),
             Stage::ReadRefused(Rewrite, 3),
         ],
         finished: Some(15),
@@ -256,8 +248,8 @@ static STAGED_ROWS: [Opening; 10] = [
         stages: &[
             Stage::Scan,
             Stage::ReadRefused(Append, 3),
-            Stage::Read(Rewrite),
-            Stage::Read(Append),
+            Stage::Read(Rewrite, 1),
+            Stage::Read(Append, 1),
         ],
         finished: None,
     },

@@ -4,7 +4,7 @@
 use raft_env::{FileSystem, IoKind};
 use raft_memory::{Choice, FsCall, MemoryFileSystem};
 use raft_records::Fault;
-use std::alloc::Global;
+use std::alloc::{AllocError, Global};
 
 /// Files that fail and crash as they are told.
 pub(crate) trait Failing: FileSystem + Drop {
@@ -17,10 +17,10 @@ pub(crate) trait Failing: FileSystem + Drop {
     fn crashed(&self, choices: &[Choice]) -> Result<Self, Fault>;
 
     /// Gives a folder so many bytes of free space.
-    fn free_to(&mut self, folder: &str, bytes: u64) -> Result<(), Fault>;
+    fn free_to(&mut self, folder: &str, bytes: u64) -> Result<(), AllocError>;
 
     /// Gives metadata to a path.
-    fn note(&mut self, path: &str) -> Result<(), Fault>;
+    fn note(&mut self, path: &str) -> Result<(), AllocError>;
 }
 
 impl Failing for MemoryFileSystem {
@@ -36,11 +36,11 @@ impl Failing for MemoryFileSystem {
         self.crash(choices)
     }
 
-    fn free_to(&mut self, folder: &str, bytes: u64) -> Result<(), Fault> {
-        Ok(self.set_free(folder, bytes)?)
+    fn free_to(&mut self, folder: &str, bytes: u64) -> Result<(), AllocError> {
+        self.set_free(folder, bytes)
     }
 
-    fn note(&mut self, path: &str) -> Result<(), Fault> {
-        Ok(self.set_metadata(path)?)
+    fn note(&mut self, path: &str) -> Result<(), AllocError> {
+        self.set_metadata(path)
     }
 }

@@ -4,7 +4,7 @@ use raft_builder::DualPipesBuilder;
 use raft_config::Config;
 use raft_env::{FileSystem, FsFault, Permission};
 use raft_records::{Fault, Fresh};
-use raft_rows::store_in;
+use raft_rows::{FileParts, store_in};
 use std::alloc::{AllocError, Global};
 
 /// That of a file in version 2.
@@ -39,46 +39,34 @@ pub(crate) fn begun<F: FileSystem + Drop>(
     begun_in(alloc, &settings(alloc)?, fs)
 }
 
-/// Makes a file of these parts.
-pub(crate) fn store<F: FileSystem>(
-    alloc: Global,
-    fs: &mut F,
-    path: &str,
-    parts: &[&[u8]],
-) -> Result<(), Fault> {
-    let folder = if path.len() > 4 { "data" } else { "" };
-    match store_in(fs, folder, path, parts) {
-        Ok(()) => Ok(()),
-        Err(fault) => Err(fault.with_path(alloc, path)),
+/// Makes a file of these parts, in the folder of its path, which is made if it isn't there.
+pub(crate) fn stores<F: FileSystem>(fs: &mut F, path: &str, parts: &[&[u8]]) -> bool {
+    let folder = match path.rsplit_once('/') {
+        Some((folder, _name)) => folder,
+        None => "",
+    };
+    store_in(fs, folder, path, parts).is_ok()
+}
+
+/// Makes each of these files.
+pub(crate) fn stores_all<F: FileSystem>(fs: &mut F, files: &[FileParts]) -> bool {
+    for (path, parts) in files {
+        if !stores(fs, path, parts) {
+            return false;
+        }
     }
+    true
 }
 
 /// The length of a file.
-pub(crate) fn length_of<F: FileSystem>(
-    alloc: Global,
-    fs: &mut F,
-    path: &str,
-) -> Result<usize, Fault> {
-    let length = match fs.open(path, Permission::ReadOnly) {
-        Ok(handle) => fs.file_size(&handle),
-        Err(fault) => Err(fault),
-    };
-    match length {
-        Ok(len) => Ok(len),
-        Err(fault) => Err(fault.with_path(alloc, path)),
+pub(crate) fn length_of<F: FileSystem>(fs: &mut F, path: &str) -> Option<usize> {
+    match fs.open(path, Permission::ReadOnly) {
+        Ok(handle) => match fs.file_size(&handle) {
+            Ok(len) => Some(len),
+            Err(_) => None,
+        },
+        Err(_) => None,
     }
-}
-
-/// The length of the file at the path, if one stands there.
-pub(crate) fn len_at<F: FileSystem>(
-    alloc: Global,
-    fs: &mut F,
-    path: &str,
-) -> Result<Option<usize>, Fault> {
-    if !fs.is_file(path) {
-        return Ok(None);
-    }
-    Ok(Some(length_of(alloc, fs, path)?))
 }
 
 // Reads into the bytes, and answers how many were read.
@@ -91,28 +79,18 @@ fn read_to<F: FileSystem>(fs: &mut F, path: &str, bytes: &mut [u8]) -> Result<us
 }
 
 /// Whether the file at the path begins with so many zeros.
-pub(crate) fn has_zeros<F: FileSystem>(
-    alloc: Global,
-    fs: &mut F,
-    path: &str,
-    len: usize,
-) -> Result<bool, Fault> {
-    let mut bytes = vec![in alloc; 7; len]?;
-    match read_to(fs, path, &mut bytes) {
-        Ok(read) => Ok(read == len && are_all(&bytes, 0)),
-        Err(fault) => Err(fault.with_path(alloc, path)),
+pub(crate) fn has_zeros<F: FileSystem>(alloc: Global, fs: &mut F, path: &str, len: usize) -> bool {
+    match vec![in alloc; 7; len] {
+        Ok(mut bytes) => read_to(fs, path, &mut bytes) == Ok(len) && are_all(&bytes, 0),
+        Err(_) => false,
     }
 }
 
 /// How many files and folders stand in a folder.
-pub(crate) fn count_in<F: FileSystem>(
-    alloc: Global,
-    fs: &mut F,
-    folder: &str,
-) -> Result<usize, Fault> {
+pub(crate) fn count_in<F: FileSystem>(fs: &mut F, folder: &str) -> Option<usize> {
     match fs.list(folder) {
-        Ok(names) => Ok(names.len()),
-        Err(fault) => Err(fault.with_path(alloc, folder)),
+        Ok(names) => Some(names.len()),
+        Err(_) => None,
     }
 }
 
@@ -127,25 +105,17 @@ pub(crate) fn are_all(bytes: &[u8], wanted: u8) -> bool {
 }
 
 /// Whether these files have these lengths.
-pub(crate) fn have_lengths<F: FileSystem>(
-    alloc: Global,
-    fs: &mut F,
-    files: &[(&str, usize)],
-) -> Result<bool, Fault> {
-    let mut equal = true;
+pub(crate) fn have_lengths<F: FileSystem>(fs: &mut F, files: &[(&str, usize)]) -> bool {
     for (path, len) in files {
-        equal = length_of(alloc, fs, path)? == *len && equal;
+        if length_of(fs, path) != Some(*len) {
+            return false;
+        }
     }
-    Ok(equal)
+    true
 }
 
 /// .. and stand alone.
-pub(crate) fn stand_alone<F: FileSystem>(
-    alloc: Global,
-    fs: &mut F,
-    files: &[(&str, usize)],
-) -> Result<bool, Fault> {
+pub(crate) fn stand_alone<F: FileSystem>(fs: &mut F, files: &[(&str, usize)]) -> bool {
     let folder = if fs.is_dir("data") { "data" } else { "" };
-    let count = count_in(alloc, fs, folder)?;
-    Ok(have_lengths(alloc, fs, files)? && count == files.len())
+    have_lengths(fs, files) && count_in(fs, folder) == Some(files.len())
 }

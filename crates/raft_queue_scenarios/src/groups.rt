@@ -87,18 +87,23 @@ fn is_as_said(read: &Read, group: u64) -> bool {
         && tables.last_index(group) == Some(last)
 }
 
-fn are_as_said(read: &Read) -> Result<bool, AllocError> {
-    let groups = read.tables.groups()?;
+fn are_as_said(read: &Read) -> bool {
+    let Ok(groups) = read.tables.groups() else {
+        return false;
+    };
     for group in &groups {
         if !is_as_said(read, *group) {
-            return Ok(false);
+            return false;
         }
     }
-    Ok(groups.len() == 60)
+    groups.len() == 60
 }
 
-fn joins_all<R: Threads + Sync>(rt: &R, alloc: Global, threads: usize) -> Result<bool, Fault> {
-    Ok(are_as_said(&read(rt, alloc, threads)?)?)
+fn joins_all<R: Threads + Sync>(rt: &R, alloc: Global, threads: usize) -> bool {
+    match read(rt, alloc, threads) {
+        Ok(read) => are_as_said(&read),
+        Err(_) => false,
+    }
 }
 
 #[test]

@@ -37,6 +37,8 @@ mod refused;
 #[cfg(test)]
 mod reserved_files;
 #[cfg(test)]
+mod reserved_rows;
+#[cfg(test)]
 mod shares;
 #[cfg(test)]
 mod steps;
@@ -45,6 +47,10 @@ mod stored;
 #[cfg(test)]
 mod told;
 #[cfg(test)]
+mod tried;
+#[cfg(test)]
 mod two_folders;
 #[cfg(test)]
 mod two_queues;
+#[cfg(test)]
+mod workers;

@@ -1,14 +1,15 @@
 //! Two workers that wait for one another.
 
+use crate::failing::Failing;
 use crate::stored::ready;
 use crate::told::assert_row;
-use raft_builder::{MergingMachine, RecoveryConfig};
+use crate::workers::{Worked, works_in_memory};
+use raft_builder::{DualPipesBuilder, MergingMachine, RecoveryConfig};
 use raft_config::RecoveryMode;
 use raft_env::FileSystem;
-use raft_memory::MemoryFileSystem;
 use raft_opening::ReplayMachine;
 use raft_records::{Factory, Fault, FileId, LogItem, LogQueue};
-use std::alloc::Global;
+use std::alloc::{AllocError, Global};
 use std::sync::Arc;
 use std::sync::atomic::{AtomicU64, Ordering};
 use std::thread;
@@ -60,54 +61,60 @@ impl Factory<Meeting> for Meetings {
     }
 }
 
-/// Whether the machines of two Append files meet.
-fn meet<R: Threads + Sync, F: FileSystem + Drop>(
-    rt: &R,
-    alloc: Global,
-    fs: F,
-) -> Result<bool, Fault> {
-    let factory = Meetings {
+fn make_meetings(alloc: Global) -> Result<Meetings, AllocError> {
+    Ok(Meetings {
         begun: Arc::new(alloc, AtomicU64::new(0))?,
-    };
-    let mut builder = ready(alloc, fs, (2, 0), 2)?;
-    let met: Result<(Meeting, Meeting), Fault> = builder.recover(rt, &factory);
-    drop(builder);
-    Ok(met.is_ok())
+    })
 }
 
-/// The same where the queue is read by itself, by two workers.
-fn meet_in_queue<R: Threads + Sync, F: FileSystem + Drop>(
+// Two workers of the Append queue alone.
+const ALONE: RecoveryConfig = RecoveryConfig {
+    queue: LogQueue::Append,
+    mode: RecoveryMode::TolerateAnyCorruption,
+    concurrency: 2,
+    read_block_size: 512,
+};
+
+fn meet_in<R: Threads + Sync, F: FileSystem + Drop>(
     rt: &R,
-    alloc: Global,
-    fs: F,
-) -> Result<bool, Fault> {
-    let factory = Meetings {
-        begun: Arc::new(alloc, AtomicU64::new(0))?,
-    };
-    let mut builder = ready(alloc, fs, (2, 0), 1)?;
-    let recovery = RecoveryConfig {
-        queue: LogQueue::Append,
-        mode: RecoveryMode::TolerateAnyCorruption,
-        concurrency: 2,
-        read_block_size: 512,
-    };
-    let met: Result<Meeting, Fault> = builder.recover_queue(rt, recovery, &factory);
-    drop(builder);
-    Ok(met.is_ok())
+    builder: &mut DualPipesBuilder<F>,
+    meetings: &Meetings,
+    is_alone: bool,
+) -> bool {
+    if is_alone {
+        let met: Result<Meeting, Fault> = builder.recover_queue(rt, ALONE, meetings);
+        met.is_ok()
+    } else {
+        let met: Result<(Meeting, Meeting), Fault> = builder.recover(rt, meetings);
+        met.is_ok()
+    }
 }
 
-fn meet_in_memory<R: Threads + Sync>(rt: &R, alloc: Global) -> Result<bool, Fault> {
-    meet(rt, alloc, MemoryFileSystem::new(alloc))
+fn opened<F: Failing>(alloc: Global, is_alone: bool) -> Result<DualPipesBuilder<F>, Fault> {
+    let threads = if is_alone { 1 } else { 2 };
+    ready(alloc, F::fresh(alloc), (2, 0), threads)
 }
 
-fn meet_in_queue_in_memory<R: Threads + Sync>(rt: &R, alloc: Global) -> Result<bool, Fault> {
-    meet_in_queue(rt, alloc, MemoryFileSystem::new(alloc))
+/// Whether the machines of two Append files meet, if both queues are read or this one by itself.
+pub(crate) fn meet<R: Threads + Sync, F: Failing>(rt: &R, alloc: Global, is_alone: bool) -> bool {
+    let Ok(meetings) = make_meetings(alloc) else {
+        return false;
+    };
+    let opened: Result<DualPipesBuilder<F>, Fault> = opened(alloc, is_alone);
+    match opened {
+        Ok(mut builder) => {
+            let met = meet_in(rt, &mut builder, &meetings, is_alone);
+            drop(builder);
+            met
+        }
+        Err(_) => false,
+    }
 }
 
 #[test]
 fn two_workers_meet(rt: HostRuntime) {
-    let met = meet_in_memory(&rt, rt.alloc());
+    let met = works_in_memory(&rt, rt.alloc(), &Worked::Meeting(false));
     assert_row(&rt, met, "the machines of both queues");
-    let met = meet_in_queue_in_memory(&rt, rt.alloc());
+    let met = works_in_memory(&rt, rt.alloc(), &Worked::Meeting(true));
     assert_row(&rt, met, "the machines of one queue");
 }

@@ -1,13 +1,14 @@
 //! A queue of log files: where what is appended stands, what is read of it, and how it goes on to next files.
-ghost use Rattle.std.specs.Prelude.{◌≡◌, IfOk, OnOk};
+ghost use Rattle.std.specs.Prelude.{◌≡◌, true, IfOk};
 ghost use Rattle.raft_pipes.specs.Pipe.{IsPipeOf};
 
-use crate::folders::{HEADER, are_all, settings, stand_alone, store};
+use crate::failing::Failing;
+use crate::folders::{HEADER, are_all, settings, stand_alone, stores};
 use crate::told::assert_row;
+use crate::tried::{Tried, holds_in_memory};
 use raft_env::FileSystem;
-use raft_memory::MemoryFileSystem;
 use raft_opening::{ReplayMachine, read_files, settle_or_begin};
-use raft_pipes::{AppendFault, LogFolders, NewPipe, RotationFault, SinglePipe};
+use raft_pipes::{LogFolders, NewPipe, RotationFault, SinglePipe};
 use raft_records::{Fault, FileBlockHandle, FileId, LogItem, LogQueue};
 use std::alloc::Global;
 
@@ -28,7 +29,7 @@ const TARGET: usize = 1024;
 const ALWAYS_FULL: usize = 1;
 
 /// 16 bytes where a file's records begin: their byte, and the number of the file.
-enum Each {
+pub(crate) enum Each {
     /// They are appended and synced.
     Put(u8, u64),
     /// They alone are read at the handle of their append.
@@ -37,7 +38,7 @@ enum Each {
     Gone(u64),
 }
 
-enum Step {
+pub(crate) enum Step {
     /// Ten of these, each with the next byte and in the next file.
     Ten(Each),
     /// Appends so many bytes, to the next file where the last one is full: the file and the place where they stand.
@@ -55,7 +56,7 @@ enum Step {
 
 /// A file that stands before the queue is opened, how many files are kept to be used again, the
 /// steps, and the files after them with their lengths.
-struct Case {
+pub(crate) struct Case {
     name: &'static str,
     found: Option<&'static str>,
     capacity: usize,
@@ -176,16 +177,6 @@ impl ReplayMachine for NoMachine {
     }
 }
 
-fn id_of(seq: u64) -> FileId {
-    FileId::new(LogQueue::Append, seq)
-}
-
-fn fault_of(fault: RotationFault) -> Fault {
-    match fault {
-        RotationFault::NotBegun(fault) | RotationFault::Stopped(fault) => fault,
-    }
-}
-
 // The pipe of the Append queue, over the files that stand.
 fn opened<F: FileSystem>(alloc: Global, fs: &mut F, capacity: usize) -> Result<SinglePipe<F>, Fault>
     ensures stands { IfOk result (λ pipe. IsPipeOf pipe (F.directory fs.new)) }
@@ -208,42 +199,43 @@ fn opened<F: FileSystem>(alloc: Global, fs: &mut F, capacity: usize) -> Result<S
     settle_or_begin(alloc, wanted, files, replayed, fs)
 }
 
-fn append<F: FileSystem>(
+// Whether bytes are appended there, after the pipe has gone on to a next file if its last one is full.
+fn appends<F: FileSystem>(
     alloc: Global,
     fs: &mut F,
     pipe: &mut SinglePipe<F>,
     written: &Written,
-) -> Result<FileBlockHandle, Fault>
+    wanted: FileBlockHandle,
+) -> bool
     requires { IsPipeOf pipe.old (F.directory fs.old) }
-    ensures stands { OnOk result (IsPipeOf pipe.new (F.directory fs.new)) }
+    ensures stands { result ≡ true → IsPipeOf pipe.new (F.directory fs.new) }
 {
-    let bytes = vec![in alloc; written.byte; written.len]?;
+    let Ok(bytes) = vec![in alloc; written.byte; written.len] else {
+        return false;
+    };
     match pipe.rotate_if_full(fs, written.target) {
         Ok(()) => {}
-        Err(fault) => return Err(fault_of(fault)),
+        Err(_) => return false,
     }
     match pipe.append(fs, &bytes, written.target, written.sync) {
-        Ok(handle) => Ok(handle),
-        Err(AppendFault::RolledBack(fault)) | Err(AppendFault::InDoubt(fault)) => Err(fault),
+        Ok(handle) => handle == wanted,
+        Err(_) => false,
     }
 }
 
-// How many bytes are read of a block, if all of them are those that are appended.
-fn read<F: FileSystem>(
+// Whether so many bytes are read of a block, all of them those that are appended.
+fn reads<F: FileSystem>(
     alloc: Global,
     fs: &mut F,
     pipe: &SinglePipe<F>,
     block: FileBlockHandle,
-) -> Result<Option<usize>, Fault>
+    wanted: usize,
+) -> bool
     ensures unchanged { F.directory fs.new ≡ F.directory fs.old }
 {
     let mut bytes = Vec::new(alloc);
-    pipe.read_block_to(fs, Some(block), &mut bytes)?;
-    if are_all(&bytes, 7) {
-        Ok(Some(bytes.len()))
-    } else {
-        Ok(None)
-    }
+    let is_read = pipe.read_block_to(fs, Some(block), &mut bytes).is_ok();
+    is_read && bytes.len() == wanted && are_all(&bytes, 7)
 }
 
 // Whether 16 bytes alone are read, all of them this byte.
@@ -253,12 +245,12 @@ fn reads_all<F: FileSystem>(
     pipe: &SinglePipe<F>,
     seq: u64,
     byte: u8,
-) -> Result<bool, Fault>
+) -> bool
     ensures unchanged { F.directory fs.new ≡ F.directory fs.old }
 {
     let mut bytes = Vec::new(alloc);
-    pipe.read_bytes(fs, first_block(seq), &mut bytes)?;
-    Ok(bytes.len() == 16 && are_all(&bytes, byte))
+    let is_read = pipe.read_bytes(fs, first_block(seq), &mut bytes).is_ok();
+    is_read && bytes.len() == 16 && are_all(&bytes, byte)
 }
 
 fn is_gone<F: FileSystem>(alloc: Global, fs: &mut F, pipe: &SinglePipe<F>, seq: u64) -> bool
@@ -270,12 +262,16 @@ fn is_gone<F: FileSystem>(alloc: Global, fs: &mut F, pipe: &SinglePipe<F>, seq: 
     }
 }
 
-fn first_block(seq: u64) -> FileBlockHandle {
+fn block(seq: u64, offset: u64, len: usize) -> FileBlockHandle {
     FileBlockHandle {
-        id: id_of(seq),
-        offset: 69,
-        len: 16,
+        id: FileId::new(LogQueue::Append, seq),
+        offset,
+        len,
     }
+}
+
+fn first_block(seq: u64) -> FileBlockHandle {
+    block(seq, 69, 16)
 }
 
 // Whether the nth comes to what it says.
@@ -285,9 +281,9 @@ fn nth_holds<F: FileSystem>(
     pipe: &mut SinglePipe<F>,
     each: &Each,
     nth: u8,
-) -> Result<bool, Fault>
+) -> bool
     requires { IsPipeOf pipe.old (F.directory fs.old) }
-    ensures stands { OnOk result (IsPipeOf pipe.new (F.directory fs.new)) }
+    ensures stands { result ≡ true → IsPipeOf pipe.new (F.directory fs.new) }
 {
     match each {
         Each::Put(byte, seq) => {
@@ -297,43 +293,34 @@ fn nth_holds<F: FileSystem>(
                 target: ALWAYS_FULL,
                 sync: true,
             };
-            let handle = append(alloc, fs, pipe, &written)?;
-            Ok(handle == first_block(seq.saturating_add(u64::from(nth))))
+            let wanted = first_block(seq.saturating_add(u64::from(nth)));
+            appends(alloc, fs, pipe, &written, wanted)
         }
         Each::Read(byte, seq) => {
             let (byte, seq) = (byte.saturating_add(nth), seq.saturating_add(u64::from(nth)));
             reads_all(alloc, fs, pipe, seq, byte)
         }
-        Each::Gone(seq) => Ok(is_gone(alloc, fs, pipe, seq.saturating_add(u64::from(nth)))),
+        Each::Gone(seq) => is_gone(alloc, fs, pipe, seq.saturating_add(u64::from(nth))),
     }
 }
 
 // Whether all ten come to what they say.
-fn ten_hold<F: FileSystem>(
-    alloc: Global,
-    fs: &mut F,
-    pipe: &mut SinglePipe<F>,
-    each: &Each,
-) -> Result<bool, Fault>
+fn ten_hold<F: FileSystem>(alloc: Global, fs: &mut F, pipe: &mut SinglePipe<F>, each: &Each) -> bool
     requires { IsPipeOf pipe.old (F.directory fs.old) }
-    ensures stands { OnOk result (IsPipeOf pipe.new (F.directory fs.new)) }
+    ensures stands { result ≡ true → IsPipeOf pipe.new (F.directory fs.new) }
 {
-    let mut are_right = true;
     for nth in 0..10u8 {
-        are_right = nth_holds(alloc, fs, pipe, each, nth)? && are_right;
+        if !nth_holds(alloc, fs, pipe, each, nth) {
+            return false;
+        }
     }
-    Ok(are_right)
+    true
 }
 
 // Whether the step comes to what it says.
-fn holds<F: FileSystem>(
-    alloc: Global,
-    fs: &mut F,
-    pipe: &mut SinglePipe<F>,
-    step: &Step,
-) -> Result<bool, Fault>
+fn holds<F: FileSystem>(alloc: Global, fs: &mut F, pipe: &mut SinglePipe<F>, step: &Step) -> bool
     requires { IsPipeOf pipe.old (F.directory fs.old) }
-    ensures stands { OnOk result (IsPipeOf pipe.new (F.directory fs.new)) }
+    ensures stands { result ≡ true → IsPipeOf pipe.new (F.directory fs.new) }
 {
     match step {
         Step::Append(len, seq, offset) => {
@@ -343,79 +330,71 @@ fn holds<F: FileSystem>(
                 target: TARGET,
                 sync: false,
             };
-            let handle = append(alloc, fs, pipe, &written)?;
-            Ok(handle.id == id_of(*seq) && handle.offset == *offset && handle.len == *len)
+            appends(alloc, fs, pipe, &written, block(*seq, *offset, *len))
         }
         Step::Ten(each) => ten_hold(alloc, fs, pipe, each),
         Step::Rotate => match pipe.rotate(fs) {
-            Ok(()) => Ok(true),
-            Err(fault) => Err(fault_of(fault)),
+            Ok(()) => true,
+            Err(_) => false,
         },
         Step::RotateRefused(code) => match pipe.rotate(fs) {
-            Ok(()) => Ok(false),
-            Err(RotationFault::NotBegun(fault)) => Ok(fault.code() == *code),
-            Err(RotationFault::Stopped(fault)) => Err(fault),
+            Err(RotationFault::NotBegun(fault)) => fault.code() == *code,
+            _ => false,
         },
         Step::Read(seq, offset, len, wanted) => {
-            let block = FileBlockHandle {
-                id: id_of(*seq),
-                offset: *offset,
-                len: *len,
-            };
-            Ok(read(alloc, fs, pipe, block)? == Some(*wanted))
+            reads(alloc, fs, pipe, block(*seq, *offset, *len), *wanted)
         }
-        Step::Purge(seq, wanted) => Ok(match (pipe.purge_to(fs, *seq), wanted) {
+        Step::Purge(seq, wanted) => match (pipe.purge_to(fs, *seq), wanted) {
             (Ok(count), Ok(wanted)) => count == *wanted,
             (Err(fault), Err(code)) => fault.code() == *code,
             _ => false,
-        }),
+        },
         Step::Span(first, last, size) => {
-            Ok(pipe.file_span() == (*first, *last) && pipe.total_size(TARGET) == *size)
+            pipe.file_span() == (*first, *last) && pipe.total_size(TARGET) == *size
         }
     }
 }
 
-// The place of the first step that comes to something else.
-fn first_wrong<F: FileSystem>(
+fn all_hold<F: FileSystem>(
     alloc: Global,
     fs: &mut F,
     pipe: &mut SinglePipe<F>,
     steps: &[Step],
-) -> Result<Option<usize>, Fault>
+) -> bool
     requires { IsPipeOf pipe.old (F.directory fs.old) }
-    ensures stands { OnOk result (IsPipeOf pipe.new (F.directory fs.new)) }
+    ensures stands { result ≡ true → IsPipeOf pipe.new (F.directory fs.new) }
 {
-    let mut wrong = None;
-    for (place, step) in steps.iter().enumerate() {
-        if !holds(alloc, fs, pipe, step)? && wrong.is_none() {
-            wrong = Some(place);
+    for step in steps {
+        if !holds(alloc, fs, pipe, step) {
+            return false;
         }
     }
-    Ok(wrong)
+    true
 }
 
-fn is_as_said<F: FileSystem>(alloc: Global, fs: &mut F, case: &Case) -> Result<bool, Fault> {
-    if let Some(path) = case.found {
-        store(alloc, fs, path, &[HEADER])?;
+// Whether the steps come to what they say, and the pipe is closed after them.
+fn are_taken<F: FileSystem>(alloc: Global, fs: &mut F, case: &Case) -> bool {
+    match opened(alloc, fs, case.capacity) {
+        Ok(mut pipe) => all_hold(alloc, fs, &mut pipe, case.steps) && pipe.close(fs).is_ok(),
+        Err(_) => false,
     }
-    let mut pipe = opened(alloc, fs, case.capacity)?;
-    if first_wrong(alloc, fs, &mut pipe, case.steps)?.is_some() {
-        return Ok(false);
-    }
-    pipe.close(fs)?;
-    stand_alone(alloc, fs, case.files)
 }
 
-fn is_so_in_memory(alloc: Global, case: &Case) -> Result<bool, Fault> {
-    let mut fs = MemoryFileSystem::new(alloc);
-    is_as_said(alloc, &mut fs, case)
+pub(crate) fn is_as_said<F: Failing>(alloc: Global, case: &Case) -> bool {
+    let mut fs = F::fresh(alloc);
+    let is_stored = match case.found {
+        Some(path) => stores(&mut fs, path, &[HEADER]),
+        None => true,
+    };
+    is_stored && are_taken(alloc, &mut fs, case) && stand_alone(&mut fs, case.files)
 }
 
 #[test]
 fn one_queue(rt: HostRuntime) {
     for cases in &cases() {
         for case in *cases {
-            assert_row(&rt, is_so_in_memory(rt.alloc(), case), case.name);
+            let held = holds_in_memory(rt.alloc(), &Tried::Queue(case));
+            assert_row(&rt, held, case.name);
         }
     }
 }

@@ -2,7 +2,6 @@
 
 use crate::steps::{GROUP, Step, items_of};
 use crate::told::assert_row;
-use raft_records::Fault;
 use raft_replay::Reaches;
 use std::alloc::{AllocError, Global};
 
@@ -63,19 +62,33 @@ fn leaves_as_said(newer: &Reaches, left: &[u64]) -> bool {
     as_said
 }
 
-/// Whether the chunks do as the case says, and reach together what their items reach in order.
-fn is_as_said(alloc: Global, case: &Case) -> Result<bool, Fault> {
-    let mut older = Reaches::new(alloc);
-    note(alloc, &mut older, case.older)?;
-    let mut newer = Reaches::new(alloc);
-    note(alloc, &mut newer, case.newer)?;
-    let replaces = newer.reach(GROUP).replaces(&older.reach(GROUP));
-    let leaves = leaves_as_said(&newer, case.left);
-    let mut whole = Reaches::new(alloc);
-    note(alloc, &mut whole, case.older)?;
+fn reaches_of(alloc: Global, steps: &[Step]) -> Result<Reaches, AllocError> {
+    let mut reaches = Reaches::new(alloc);
+    note(alloc, &mut reaches, steps)?;
+    Ok(reaches)
+}
+
+// The items of both chunks in order.
+fn whole_of(alloc: Global, case: &Case) -> Result<Reaches, AllocError> {
+    let mut whole = reaches_of(alloc, case.older)?;
     note(alloc, &mut whole, case.newer)?;
-    older.then(newer)?;
-    Ok(replaces == case.replaces && leaves && older.reach(GROUP) == whole.reach(GROUP))
+    Ok(whole)
+}
+
+/// Whether the chunks do as the case says, and reach together what their items reach in order.
+fn do_as_said(case: &Case, mut older: Reaches, newer: Reaches, whole: &Reaches) -> bool {
+    newer.reach(GROUP).replaces(&older.reach(GROUP)) == case.replaces
+        && leaves_as_said(&newer, case.left)
+        && older.then(newer).is_ok()
+        && older.reach(GROUP) == whole.reach(GROUP)
+}
+
+fn is_as_said(alloc: Global, case: &Case) -> bool {
+    let chunks = (reaches_of(alloc, case.older), reaches_of(alloc, case.newer));
+    match (chunks, whole_of(alloc, case)) {
+        ((Ok(older), Ok(newer)), Ok(whole)) => do_as_said(case, older, newer, &whole),
+        _ => false,
+    }
 }
 
 #[test]

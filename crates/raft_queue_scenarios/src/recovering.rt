@@ -2,41 +2,48 @@
 
 use crate::failing::Failing;
 use crate::keys::Keys;
-use crate::stored::{ready, scanned, store_both};
+use crate::stored::{ready, scanned, stores_both};
 use crate::told::assert_at;
 use crate::two_queues::{code_of, finished, is_refused_as};
-use raft_builder::{DefaultMachineFactory, RecoveryConfig};
+use crate::workers::{Worked, works_in_memory};
+use raft_builder::{DefaultMachineFactory, DualPipesBuilder, RecoveryConfig};
 use raft_config::RecoveryMode;
 use raft_env::{FileSystem, IoKind};
-use raft_memory::{FsCall, MemoryFileSystem};
+use raft_memory::FsCall;
 use raft_records::{Fault, LogQueue};
 use std::alloc::Global;
 use std::thread::Threads;
 
 /// How many files each queue has.
-struct Case {
+pub(crate) struct Case {
+    name: &'static str,
     append: u8,
     rewrite: u8,
 }
 
 static CASES: [Case; 5] = [
     Case {
+        name: "5 and 0 files, threads",
         append: 5,
         rewrite: 0,
     },
     Case {
+        name: "0 and 3 files, threads",
         append: 0,
         rewrite: 3,
     },
     Case {
+        name: "5 and 3 files, threads",
         append: 5,
         rewrite: 3,
     },
     Case {
+        name: "1 and 4 files, threads",
         append: 1,
         rewrite: 4,
     },
     Case {
+        name: "0 and 0 files, threads",
         append: 0,
         rewrite: 0,
     },
@@ -55,150 +62,194 @@ fn are_all(keys: &Keys, files: u8) -> bool {
     keys.found.len() == usize::from(files)
 }
 
-/// Whether so many workers find all keys, and all files are to be cut.
-fn finds_all<R: Threads + Sync, F: FileSystem + Drop>(
+// The keys that workers find in both queues.
+fn recover<R: Threads + Sync, F: FileSystem + Drop>(
     rt: &R,
     alloc: Global,
-    fs: F,
-    case: &Case,
-    threads: usize,
-) -> Result<bool, Fault> {
-    let mut builder = ready(alloc, fs, (case.append, case.rewrite), threads)?;
-    let found: Result<(Keys, Keys), Fault> = builder.recover(
-        rt,
-        &DefaultMachineFactory::new(alloc),
-    );
-    let cuts = builder.cuts().len();
-    drop(builder);
-    let (appended, rewritten) = found?;
-    let files = usize::from(case.append) + usize::from(case.rewrite);
-    Ok(are_all(&appended, case.append) && are_all(&rewritten, case.rewrite) && cuts == files)
+    builder: &mut DualPipesBuilder<F>,
+) -> Result<(Keys, Keys), Fault> {
+    builder.recover(rt, &DefaultMachineFactory::new(alloc))
 }
 
-fn finds_all_in_memory<R: Threads + Sync>(
+fn has_all<R: Threads + Sync, F: FileSystem + Drop>(
+    rt: &R,
+    alloc: Global,
+    builder: &mut DualPipesBuilder<F>,
+    case: &Case,
+) -> bool {
+    let files = usize::from(case.append) + usize::from(case.rewrite);
+    match recover(rt, alloc, builder) {
+        Ok((appended, rewritten)) => {
+            are_all(&appended, case.append)
+                && are_all(&rewritten, case.rewrite)
+                && builder.cuts().len() == files
+        }
+        Err(_) => false,
+    }
+}
+
+/// Whether so many workers find all keys, and all files are to be cut.
+pub(crate) fn finds_all<R: Threads + Sync, F: Failing>(
     rt: &R,
     alloc: Global,
     case: &Case,
     threads: usize,
-) -> Result<bool, Fault> {
-    finds_all(rt, alloc, MemoryFileSystem::new(alloc), case, threads)
+) -> bool {
+    let opened: Result<DualPipesBuilder<F>, Fault> = ready(
+        alloc,
+        F::fresh(alloc),
+        (case.append, case.rewrite),
+        threads,
+    );
+    match opened {
+        Ok(mut builder) => {
+            let found = has_all(rt, alloc, &mut builder, case);
+            drop(builder);
+            found
+        }
+        Err(_) => false,
+    }
 }
 
 #[test]
 fn each_number_of_workers_finds_the_same(rt: HostRuntime) {
     for case in &CASES {
         for threads in &THREADS {
-            assert!(rt;
-                matches!(
-                    finds_all_in_memory(&rt, rt.alloc(), case, *threads),
-                    Ok(true)
-                ),
-                "{} and {} files, {threads} threads",
-                case.append,
-                case.rewrite
-            );
+            let held = works_in_memory(&rt, rt.alloc(), &Worked::Both(case, *threads));
+            assert_at(&rt, held, case.name, *threads);
         }
     }
 }
 
-/// What so many workers find of a queue that is read by itself, in a mode of its own: the keys, and how many files are to
-/// be cut.
-fn read_queue<R: Threads + Sync, F: FileSystem + Drop>(
+/// How many files are read of a queue by itself, or the code with which that fails: all if damage
+/// is tolerated, none by no workers, and else the damage is found.
+fn files_read(case: &Case, recovery: &RecoveryConfig) -> Result<u8, u8> {
+    let files = match recovery.queue {
+        LogQueue::Append => case.append,
+        LogQueue::Rewrite => case.rewrite,
+    };
+    let is_strict = matches!(recovery.mode, RecoveryMode::AbsoluteConsistency);
+    if files == 0 || recovery.concurrency == 0 {
+        Ok(0)
+    } else if is_strict {
+        Err(2)
+    } else {
+        Ok(files)
+    }
+}
+
+fn reads_queue<R: Threads + Sync, F: FileSystem + Drop>(
     rt: &R,
     alloc: Global,
-    fs: F,
+    builder: &mut DualPipesBuilder<F>,
     case: &Case,
     recovery: RecoveryConfig,
-) -> Result<(Keys, usize), Fault> {
-    let mut builder = ready(alloc, fs, (case.append, case.rewrite), 1)?;
-    let keys: Result<Keys, Fault> = builder.recover_queue(
+) -> bool {
+    let read: Result<Keys, Fault> = builder.recover_queue(
         rt,
         recovery,
         &DefaultMachineFactory::new(alloc),
     );
-    let cuts = builder.cuts().len();
-    drop(builder);
-    Ok((keys?, cuts))
+    match (read, files_read(case, &recovery)) {
+        (Ok(keys), Ok(files)) => {
+            are_all(&keys, files) && builder.cuts().len() == usize::from(files)
+        }
+        (Err(fault), Err(code)) => fault.code() == code,
+        _ => false,
+    }
 }
 
-/// Whether all is found where damage is tolerated, nothing by no workers, and where none is tolerated the damage.
-fn is_read_alone<R: Threads + Sync>(
+/// Whether a queue that is read by itself, in a mode of its own, has the keys that it should.
+pub(crate) fn is_read_alone<R: Threads + Sync, F: Failing>(
     rt: &R,
     alloc: Global,
     case: &Case,
-    queue: LogQueue,
-    concurrency: usize,
-) -> Result<bool, Fault> {
-    let files = match queue {
-        LogQueue::Append => case.append,
-        LogQueue::Rewrite => case.rewrite,
-    };
-    let recovery = RecoveryConfig {
+    recovery: RecoveryConfig,
+) -> bool {
+    let opened: Result<DualPipesBuilder<F>, Fault> = ready(
+        alloc,
+        F::fresh(alloc),
+        (case.append, case.rewrite),
+        1,
+    );
+    match opened {
+        Ok(mut builder) => {
+            let read = reads_queue(rt, alloc, &mut builder, case, recovery);
+            drop(builder);
+            read
+        }
+        Err(_) => false,
+    }
+}
+
+fn recovery(queue: LogQueue, mode: RecoveryMode, concurrency: usize) -> RecoveryConfig {
+    RecoveryConfig {
         queue,
-        mode: RecoveryMode::TolerateAnyCorruption,
+        mode,
         concurrency,
         read_block_size: 512,
-    };
-    let wanted = if concurrency == 0 { 0 } else { files };
-    let (keys, cuts) = read_queue(rt, alloc, MemoryFileSystem::new(alloc), case, recovery)?;
-    let recovery = RecoveryConfig {
-        mode: RecoveryMode::AbsoluteConsistency,
-        ..recovery
-    };
-    let refused = match read_queue(rt, alloc, MemoryFileSystem::new(alloc), case, recovery) {
-        Ok(_read) => 0,
-        Err(fault) => fault.code(),
-    };
-    let code = if wanted == 0 { 0 } else { 2 };
-    Ok(are_all(&keys, wanted) && cuts == usize::from(wanted) && refused == code)
+    }
 }
+
+/// Modes in which a queue is read by itself.
+const MODES: [RecoveryMode; 2] = [
+    RecoveryMode::TolerateAnyCorruption,
+    RecoveryMode::AbsoluteConsistency,
+];
 
 #[test]
 fn each_queue_is_read_alone(rt: HostRuntime) {
     for case in &CASES {
         for queue in &[LogQueue::Append, LogQueue::Rewrite] {
             for concurrency in &THREADS {
-                assert!(rt;
-                    matches!(
-                        is_read_alone(&rt, rt.alloc(), case, *queue, *concurrency),
-                        Ok(true)
-                    ),
-                    "{queue:?} of {} and {} files, {concurrency} workers",
-                    case.append,
-                    case.rewrite
-                );
+                for mode in &MODES {
+                    let alone = Worked::Alone(case, recovery(*queue, *mode, *concurrency));
+                    let held = works_in_memory(&rt, rt.alloc(), &alone);
+                    assert_at(&rt, held, case.name, *concurrency);
+                }
             }
         }
     }
 }
 
-/// Whether reading both queues fails as `Io` where the nth call of a sort is refused, cuts nothing,
-/// and leaves the opening unfinished.
-fn is_refused<R: Threads + Sync, F: Failing>(
-    rt: &R,
-    alloc: Global,
-    call: FsCall,
-    nth: u64,
-    threads: usize,
-) -> Result<bool, Fault> {
+// Files of both queues, over which the nth call of a sort is refused.
+fn refusing<F: Failing>(alloc: Global, call: FsCall, nth: u64) -> Option<F> {
     let mut fs = F::fresh(alloc);
-    store_both(alloc, &mut fs, 3, 2)?;
-    fs.fail(call, nth, IoKind::Other)?;
-    let mut builder = scanned(alloc, fs, threads)?;
-    let read: Result<(Keys, Keys), Fault> = builder.recover(rt, &DefaultMachineFactory::new(alloc));
-    let cuts_nothing = is_refused_as(read, 3) && builder.cuts().is_empty();
-    let (ended, _fs) = finished(builder);
-    Ok(cuts_nothing && code_of(ended) == Some(15))
+    if stores_both(alloc, &mut fs, (3, 2)) && fs.fail(call, nth, IoKind::Other).is_ok() {
+        Some(fs)
+    } else {
+        None
+    }
 }
 
-fn is_refused_in_memory<R: Threads + Sync>(
+fn cuts_nothing<R: Threads + Sync, F: FileSystem + Drop>(
+    rt: &R,
+    alloc: Global,
+    mut builder: DualPipesBuilder<F>,
+) -> bool {
+    let is_refused = is_refused_as(recover(rt, alloc, &mut builder), 3);
+    let is_uncut = builder.cuts().is_empty();
+    let (ended, _fs) = finished(builder);
+    is_refused && is_uncut && code_of(ended) == Some(15)
+}
+
+/// Whether reading both queues fails as `Io` if the nth call of a sort is refused, cuts nothing,
+/// and leaves the opening unfinished.
+pub(crate) fn is_refused<R: Threads + Sync, F: Failing>(
     rt: &R,
     alloc: Global,
     call: FsCall,
     nth: u64,
     threads: usize,
-) -> Result<bool, Fault> {
-    is_refused::<R, MemoryFileSystem>(rt, alloc, call, nth, threads)
+) -> bool {
+    let refusing: Option<F> = refusing(alloc, call, nth);
+    match refusing {
+        Some(fs) => match scanned(alloc, fs, threads) {
+            Ok(builder) => cuts_nothing(rt, alloc, builder),
+            Err(_) => false,
+        },
+        None => false,
+    }
 }
 
 #[test]
@@ -206,16 +257,13 @@ fn a_refused_reading_cuts_nothing(rt: HostRuntime) {
     for threads in &THREADS {
         for nth in 1..6 {
             for call in &[FsCall::Open, FsCall::NewReader, FsCall::FileSize] {
-                assert!(rt;
-                    matches!(
-                        is_refused_in_memory(&rt, rt.alloc(), *call, nth, *threads),
-                        Ok(true)
-                    ),
-                    "call {nth}, {threads} threads"
-                );
+                let refused = Worked::Refused(*call, nth, *threads);
+                let held = works_in_memory(&rt, rt.alloc(), &refused);
+                assert_at(&rt, held, "a call, threads", *threads);
             }
         }
-        let refused = is_refused_in_memory(&rt, rt.alloc(), FsCall::Read, 1, *threads);
-        assert_at(&rt, refused, "a read, threads", *threads);
+        let refused = Worked::Refused(FsCall::Read, 1, *threads);
+        let held = works_in_memory(&rt, rt.alloc(), &refused);
+        assert_at(&rt, held, "a read, threads", *threads);
     }
 }

@@ -1,20 +1,24 @@
 //! Checks of a folder's entries in which a call on the files fails.
 
-use crate::checks::{APPEND_1, APPEND_2, APPEND_3, Stored, store_all};
+use crate::checks::{APPEND_1, APPEND_2, APPEND_3};
 use crate::failing::Failing;
+use crate::folders::stores_all;
+use crate::told::assert_at;
+use crate::tried::{Tried, holds_in_memory};
 use raft_consistency::consistency_check_with_file_system;
 use raft_env::{FileSystem, IoKind};
 use raft_memory::{FsCall, MemoryFileSystem};
 use raft_records::Fault;
+use raft_rows::FileParts;
 use std::alloc::Global;
 use std::test::Fail;
 
-const FILES: &[Stored] = &[APPEND_1, APPEND_2, APPEND_3];
+const FILES: &[FileParts] = &[APPEND_1, APPEND_2, APPEND_3];
 
 const HOLES: &[(u64, u64)] = &[(2, 1), (7, 3)];
 
 /// A sort of calls, and how many of them a check of three files makes at the least.
-struct Sort(FsCall, u64);
+pub(crate) struct Sort(FsCall, u64);
 
 static SORTS: [Sort; 5] = [
     Sort(FsCall::List, 1),
@@ -51,71 +55,53 @@ fn failed_as(fault: &Fault, kind: IoKind) -> Option<bool> {
 
 // Whether the nth call of the sort came, and failed the check, and the next one finds all; none
 // where something else came of it.
-fn fails_at<F: Failing>(
-    alloc: Global,
-    call: FsCall,
-    nth: u64,
-    kind: IoKind,
-) -> Result<Option<bool>, Fault> {
+fn fails_at<F: Failing>(alloc: Global, call: FsCall, nth: u64, kind: IoKind) -> Option<bool> {
     let mut fs = F::fresh(alloc);
-    store_all(alloc, &mut fs, FILES)?;
-    fs.fail(call, nth, kind)?;
+    if !stores_all(&mut fs, FILES) || fs.fail(call, nth, kind).is_err() {
+        return None;
+    }
     let (found, fs) = checked(alloc, fs, kind);
     let is_failed = fs.refusals() > 0;
     if found != Some(!is_failed) {
-        return Ok(None);
+        return None;
     }
     if !is_failed {
-        return Ok(Some(false));
+        return Some(false);
     }
     let (again, _fs) = checked(alloc, fs, kind);
-    Ok(if again == Some(true) { again } else { None })
+    if again == Some(true) { again } else { None }
 }
 
-// How many calls of the sort failed, or none where something else came of one.
-fn count_failing<F: Failing>(
-    alloc: Global,
-    call: FsCall,
-    kind: IoKind,
-) -> Result<Option<u64>, Fault> {
+/// Whether each call of the sort fails the check, as many as it makes at the least, and nothing
+/// else comes of one.
+pub(crate) fn fails_each_time<F: Failing>(alloc: Global, sort: &Sort, kind: IoKind) -> bool {
     for nth in 1..MANY {
-        match fails_at::<F>(alloc, call, nth, kind)? {
+        match fails_at::<F>(alloc, sort.0, nth, kind) {
             Some(true) => {}
-            Some(false) => return Ok(Some(nth - 1)),
-            None => return Ok(None),
+            Some(false) => return nth > sort.1,
+            None => return false,
         }
     }
-    Ok(None)
-}
-
-// The place of the first sort whose failing calls come to something else.
-fn first_wrong<F: Failing>(alloc: Global) -> Result<Option<usize>, Fault> {
-    for (place, sort) in SORTS.iter().enumerate() {
-        for kind in &KINDS {
-            match count_failing::<F>(alloc, sort.0, *kind)? {
-                Some(count) if count >= sort.1 => {}
-                _ => return Ok(Some(place)),
-            }
-        }
-    }
-    Ok(None)
-}
-
-fn wrong_sort(alloc: Global) -> Result<Option<usize>, Fault> {
-    first_wrong::<MemoryFileSystem>(alloc)
+    false
 }
 
 #[test]
 fn a_failing_call_fails_the_check(rt: HostRuntime) {
-    let wrong = wrong_sort(rt.alloc());
-    assert!(rt; matches!(wrong, Ok(None)), "sort {wrong:?}");
+    for (place, sort) in SORTS.iter().enumerate() {
+        for kind in &KINDS {
+            let held = holds_in_memory(rt.alloc(), &Tried::RefusedCheck(sort, *kind));
+            assert_at(&rt, held, "sort", place);
+        }
+    }
 }
 
 // Whether a check finds all holes; with the Nth request for memory refused (`rt try --test --fail-
 // alloc N`) it says so, and the next one finds them.
 fn is_found<F: Failing>(alloc: Global) -> Result<bool, Fault> {
     let mut fs = F::fresh(alloc);
-    store_all(alloc, &mut fs, FILES)?;
+    if !stores_all(&mut fs, FILES) {
+        return Err(Fault::Memory);
+    }
     match consistency_check_with_file_system(alloc, "data", fs) {
         Ok((holes, _fs)) => Ok(holes.as_slice() == HOLES),
         Err((Fault::Memory, fs)) => Ok(checked(alloc, fs, IoKind::Other).0 == Some(true)),

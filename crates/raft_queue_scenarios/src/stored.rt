@@ -1,17 +1,12 @@
 //! Log files that the tests of workers read.
 
-use crate::folders::begun_in;
+use crate::folders::{HEADER, begun_in, stores};
 use raft_builder::DualPipesBuilder;
 use raft_config::{Config, RecoveryMode};
 use raft_env::FileSystem;
 use raft_files::FileNameExt;
 use raft_records::{Fault, FileId, Fresh, LogBatch, LogFileContext, LogQueue, Version};
-use raft_rows::store;
 use std::alloc::{AllocError, Global};
-
-/// That of a file in version 2.
-pub(crate) const HEADER: &[u8] =
-    b"RAFT-LOG-FILE-HEADER-9986AB3E47F320B394C8E84916EB0ED5\0\0\0\0\0\0\0\x02\0\0\0\0\0\0\0\0";
 
 /// Bytes in which no record can be read.
 const TORN: &[u8] = &[7; 5];
@@ -25,42 +20,34 @@ fn populate(alloc: Global, batch: &mut LogBatch, key: u8) -> Result<(), Fault> {
 }
 
 // A file of one batch, which puts this key, and of bytes that can't be read.
-fn store_key<F: FileSystem>(
-    alloc: Global,
-    fs: &mut F,
-    queue: LogQueue,
-    key: u8,
-) -> Result<(), Fault> {
+fn stores_key<F: FileSystem>(alloc: Global, fs: &mut F, queue: LogQueue, key: u8) -> bool {
     let id = FileId::new(queue, u64::from(key));
-    let path = id.build_file_path(alloc, FOLDER)?;
     let mut batch = LogBatch::new(alloc);
-    populate(alloc, &mut batch, key)?;
-    batch.prepare_write(&LogFileContext::new(id, Version::V2));
-    match store(fs, path.as_str(), &[HEADER, batch.encoded_bytes(), TORN]) {
-        Ok(()) => Ok(()),
-        Err(fault) => Err(fault.with_path(alloc, path.as_str())),
+    if populate(alloc, &mut batch, key).is_err() {
+        return false;
     }
+    batch.prepare_write(&LogFileContext::new(id, Version::V2));
+    match id.build_file_path(alloc, FOLDER) {
+        Ok(path) => stores(fs, path.as_str(), &[HEADER, batch.encoded_bytes(), TORN]),
+        Err(_) => false,
+    }
+}
+
+fn stores_keys<F: FileSystem>(alloc: Global, fs: &mut F, queue: LogQueue, count: u8) -> bool {
+    for key in 1..count.saturating_add(1) {
+        if !stores_key(alloc, fs, queue, key) {
+            return false;
+        }
+    }
+    true
 }
 
 /// Stores so many files of each queue, the nth of which puts the key n, and ends in bytes that
 /// can't be read.
-pub(crate) fn store_both<F: FileSystem>(
-    alloc: Global,
-    fs: &mut F,
-    append: u8,
-    rewrite: u8,
-) -> Result<(), Fault> {
-    match fs.make_dir(FOLDER) {
-        Ok(()) => {}
-        Err(fault) => return Err(fault.with_path(alloc, FOLDER)),
-    }
-    for key in 1..append.saturating_add(1) {
-        store_key(alloc, fs, LogQueue::Append, key)?;
-    }
-    for key in 1..rewrite.saturating_add(1) {
-        store_key(alloc, fs, LogQueue::Rewrite, key)?;
-    }
-    Ok(())
+pub(crate) fn stores_both<F: FileSystem>(alloc: Global, fs: &mut F, files: (u8, u8)) -> bool {
+    fs.make_dir(FOLDER).is_ok()
+        && stores_keys(alloc, fs, LogQueue::Append, files.0)
+        && stores_keys(alloc, fs, LogQueue::Rewrite, files.1)
 }
 
 fn settings(alloc: Global, threads: usize) -> Result<Config, AllocError> {
@@ -91,11 +78,13 @@ pub(crate) fn scanned<F: FileSystem + Drop>(
 /// .. over so many files of each queue.
 pub(crate) fn ready<F: FileSystem + Drop>(
     alloc: Global,
-    fs: F,
+    mut fs: F,
     files: (u8, u8),
     threads: usize,
 ) -> Result<DualPipesBuilder<F>, Fault> {
-    let mut fs = fs;
-    store_both(alloc, &mut fs, files.0, files.1)?;
-    scanned(alloc, fs, threads)
+    if stores_both(alloc, &mut fs, files) {
+        scanned(alloc, fs, threads)
+    } else {
+        Err(Fault::Memory)
+    }
 }

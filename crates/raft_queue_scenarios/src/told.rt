@@ -1,14 +1,13 @@
-//! What tests assert of rows: the one that comes to something else is told.
+//! What tests assert of rows: a failing test names the row that comes to something else.
 
-use raft_records::Fault;
 use std::process::Abort;
 
 /// What has this name comes to what it says.
-pub(crate) fn assert_row<R: Abort>(rt: &R, held: Result<bool, Fault>, name: &str) {
-    assert!(rt; matches!(held, Ok(true)), "{name}: {held:?}");
+pub(crate) fn assert_row<R: Abort>(rt: &R, held: bool, name: &str) {
+    assert!(rt; held, "{name}");
 }
 
 /// .. with this number, of threads or of a place.
-pub(crate) fn assert_at<R: Abort>(rt: &R, held: Result<bool, Fault>, name: &str, number: usize) {
-    assert!(rt; matches!(held, Ok(true)), "{name}, {number}: {held:?}");
+pub(crate) fn assert_at<R: Abort>(rt: &R, held: bool, name: &str, number: usize) {
+    assert!(rt; held, "{name}, {number}");
 }

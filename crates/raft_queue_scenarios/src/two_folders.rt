@@ -1,52 +1,46 @@
 //! Queues whose log files stand in both folders of the settings: which of them a recovery keeps, and when there is no opening.
 
-use crate::folders::{HEADER, begun_in, count_in, have_lengths};
+use crate::failing::Failing;
+use crate::folders::{HEADER, begun_in, count_in, have_lengths, stores_all};
 use crate::told::assert_row;
-use crate::two_queues::{Ended, PUT_1, PUT_2, Wanted, are_cuts, finished, read_both};
+use crate::tried::{Tried, holds_in_memory};
+use crate::two_queues::{Ended, PUT_1, PUT_2, Wanted, are_cuts, finished, reads_both};
 use raft_builder::DualPipesBuilder;
 use raft_config::Config;
 use raft_env::FileSystem;
-use raft_memory::MemoryFileSystem;
 use raft_pipes::file_list::{FileKind, FoundFile, scan};
 use raft_records::{Fault, Fresh, LogQueue};
-use raft_rows::store_in;
+use raft_rows::FileParts;
 use std::alloc::{AllocError, Global};
 
-/// A folder, the path of a file in it, and the file's bytes.
-type Stored = (&'static str, &'static str, &'static [&'static [u8]]);
+const MAIN_1: FileParts = ("data/0000000000000001.raftlog", &[HEADER, PUT_1]);
 
-const MAIN_1: Stored = ("data", "data/0000000000000001.raftlog", &[HEADER, PUT_1]);
+const MAIN_2: FileParts = ("data/0000000000000002.raftlog", &[HEADER, PUT_2]);
 
-const MAIN_2: Stored = ("data", "data/0000000000000002.raftlog", &[HEADER, PUT_2]);
+const MAIN_3: FileParts = ("data/0000000000000003.raftlog", &[HEADER]);
 
-const MAIN_3: Stored = ("data", "data/0000000000000003.raftlog", &[HEADER]);
+const MAIN_4: FileParts = ("data/0000000000000004.raftlog", &[HEADER]);
 
-const MAIN_4: Stored = ("data", "data/0000000000000004.raftlog", &[HEADER]);
+const MAIN_5: FileParts = ("data/0000000000000005.raftlog", &[HEADER]);
 
-const MAIN_5: Stored = ("data", "data/0000000000000005.raftlog", &[HEADER]);
+const MAIN_11: FileParts = ("data/0000000000000011.raftlog", &[HEADER]);
 
-const MAIN_11: Stored = ("data", "data/0000000000000011.raftlog", &[HEADER]);
+const MAIN_12: FileParts = ("data/0000000000000012.raftlog", &[HEADER]);
 
-const MAIN_12: Stored = ("data", "data/0000000000000012.raftlog", &[HEADER]);
+const SPILL_1: FileParts = ("more/0000000000000001.raftlog", &[HEADER, PUT_1]);
 
-const SPILL_1: Stored = ("more", "more/0000000000000001.raftlog", &[HEADER, PUT_1]);
+const SPILL_2: FileParts = ("more/0000000000000002.raftlog", &[HEADER, PUT_2, b"\x07"]);
 
-const SPILL_2: Stored = (
-    "more",
-    "more/0000000000000002.raftlog",
-    &[HEADER, PUT_2, b"\x07"],
-);
+const SPILL_5: FileParts = ("more/0000000000000005.raftlog", &[HEADER]);
 
-const SPILL_5: Stored = ("more", "more/0000000000000005.raftlog", &[HEADER]);
+const SPILL_6: FileParts = ("more/0000000000000006.raftlog", &[HEADER]);
 
-const SPILL_6: Stored = ("more", "more/0000000000000006.raftlog", &[HEADER]);
-
-const SPILL_REWRITE_2: Stored = ("more", "more/0000000000000002.rewrite", &[HEADER]);
+const SPILL_REWRITE_2: FileParts = ("more/0000000000000002.rewrite", &[HEADER]);
 
 /// Files, and those of the Append queue that a recovery keeps, each with whether its number stands in one folder alone.
-struct Scan {
+pub(crate) struct Scan {
     name: &'static str,
-    stored: &'static [Stored],
+    stored: &'static [FileParts],
     kept: &'static [(&'static str, bool)],
 }
 
@@ -118,18 +112,18 @@ static SCANS: [Scan; 10] = [
 
 /// What an opening reads of the Append queue: its batches, the files that are cut, with how much of them is kept, and the
 /// first file and the last one.
-struct Found {
-    batches: u64,
+pub(crate) struct Found {
+    batches: usize,
     cuts: &'static [Wanted],
     span: (u64, u64),
 }
 
 /// The folders of the settings, files, what an opening finds, or the code with which it fails, and the files after it with
 /// their lengths.
-struct Opening {
+pub(crate) struct Opening {
     name: &'static str,
     folders: (&'static str, &'static str),
-    stored: &'static [Stored],
+    stored: &'static [FileParts],
     found: Result<Found, u8>,
     files: &'static [(&'static str, usize)],
 }
@@ -211,14 +205,14 @@ static REFUSED: [Opening; 5] = [
     Opening {
         name: "a file in the first folder's place",
         folders: ("data", "more"),
-        stored: &[("", "data", &[PUT_1]), SPILL_1],
+        stored: &[("data", &[PUT_1]), SPILL_1],
         found: Err(1),
         files: &[("data", 28), ("more/0000000000000001.raftlog", 97)],
     },
     Opening {
         name: "a file in the second folder's place",
         folders: ("data", "more"),
-        stored: &[MAIN_1, ("", "more", &[PUT_1])],
+        stored: &[MAIN_1, ("more", &[PUT_1])],
         found: Err(1),
         files: &[("data/0000000000000001.raftlog", 97), ("more", 28)],
     },
@@ -243,27 +237,17 @@ fn openings() -> [&'static [Opening]; 2] {
     [&OPENED, &REFUSED]
 }
 
-fn store_all<F: FileSystem>(alloc: Global, fs: &mut F, stored: &[Stored]) -> Result<(), Fault> {
-    for (folder, path, parts) in stored {
-        if let Err(fault) = store_in(fs, folder, path, parts) {
-            return Err(fault.with_path(alloc, path));
-        }
-    }
-    Ok(())
-}
-
-// Adds a folder, which is made where it isn't there.
-fn add_folder<F: FileSystem>(
+// Adds a folder, which is made if it isn't there.
+fn adds_folder<F: FileSystem>(
     alloc: Global,
     fs: &mut F,
     name: &str,
     folders: &mut Vec<String>,
-) -> Result<(), Fault> {
-    if let Err(fault) = fs.make_dir(name) {
-        return Err(fault.with_path(alloc, name));
+) -> bool {
+    match String::from_str(alloc, name) {
+        Ok(folder) => fs.make_dir(name).is_ok() && folders.push(folder).is_ok(),
+        Err(_) => false,
     }
-    folders.push(String::from_str(alloc, name)?)?;
-    Ok(())
 }
 
 fn are_kept(found: &[FoundFile], wanted: &[(&str, bool)]) -> bool {
@@ -275,22 +259,24 @@ fn are_kept(found: &[FoundFile], wanted: &[(&str, bool)]) -> bool {
     found.len() == wanted.len()
 }
 
-fn is_scanned<F: FileSystem>(alloc: Global, fs: &mut F, row: &Scan) -> Result<bool, Fault> {
-    store_all(alloc, fs, row.stored)?;
+pub(crate) fn is_scanned<F: Failing>(alloc: Global, row: &Scan) -> bool {
+    let mut fs = F::fresh(alloc);
     let mut folders = Vec::new(alloc);
-    add_folder(alloc, fs, "data", &mut folders)?;
-    add_folder(alloc, fs, "more", &mut folders)?;
-    let found = scan(alloc, &folders, FileKind::Log(LogQueue::Append), fs)?;
-    Ok(are_kept(found.as_slice(), row.kept))
+    let are_made = stores_all(&mut fs, row.stored)
+        && adds_folder(alloc, &mut fs, "data", &mut folders)
+        && adds_folder(alloc, &mut fs, "more", &mut folders);
+    let found = scan(alloc, &folders, FileKind::Log(LogQueue::Append), &mut fs);
+    match found {
+        Ok(found) => are_made && are_kept(found.as_slice(), row.kept),
+        Err(_) => false,
+    }
 }
 
 /// Those of these two folders.
 pub(crate) fn settings(alloc: Global, folders: &(&str, &str)) -> Result<Config, AllocError> {
     let mut config = Config::fresh(alloc);
     config.dir.push_str(folders.0)?;
-    let mut spill = String::new(alloc);
-    spill.push_str(folders.1)?;
-    config.spill_dir = Some(spill);
+    config.spill_dir = Some(String::from_str(alloc, folders.1)?);
     Ok(config)
 }
 
@@ -304,87 +290,115 @@ fn has_span(ended: Ended, span: (u64, u64)) -> bool {
 
 // The files after an opening that goes on after its scan, if it comes to what it says.
 fn gone_on<F: FileSystem + Drop>(
+    alloc: Global,
     mut builder: DualPipesBuilder<F>,
     found: &Found,
-) -> Result<Option<F>, Fault> {
-    let read = read_both(&mut builder);
-    let are_cut = are_cuts(builder.cuts(), found.cuts);
+) -> Option<F> {
+    let are_found = reads_both(alloc, &mut builder, found.batches, 0)
+        && are_cuts(builder.cuts(), found.cuts);
     let (ended, files) = finished(builder);
-    let is_found = read? == (found.batches, 0) && are_cut && has_span(ended, found.span);
-    Ok(if is_found { Some(files) } else { None })
+    if are_found && has_span(ended, found.span) {
+        Some(files)
+    } else {
+        None
+    }
 }
 
 // The files after the opening, if it comes to what it says.
 fn opened<F: FileSystem + Drop>(
+    alloc: Global,
     mut builder: DualPipesBuilder<F>,
     row: &Opening,
-) -> Result<Option<F>, Fault> {
+) -> Option<F> {
     let code = match builder.scan() {
         Ok(()) => 0,
         Err(fault) => fault.code(),
     };
     match &row.found {
-        Ok(found) if code == 0 => gone_on(builder, found),
-        Err(wanted) if code == *wanted => Ok(Some(builder.give_up())),
+        Ok(found) if code == 0 => gone_on(alloc, builder, found),
+        Err(wanted) if code == *wanted => Some(builder.give_up()),
         _ => {
             drop(builder);
-            Ok(None)
+            None
         }
     }
 }
 
-// Whether these files stand alone, with these lengths.
-fn have_stayed<F: FileSystem>(alloc: Global, fs: &mut F, row: &Opening) -> Result<bool, Fault> {
-    let (main, spill) = row.folders;
+// How many files and folders stand in a folder, if that is one.
+fn count_below<F: FileSystem>(fs: &mut F, folder: &str) -> Option<usize> {
+    if fs.is_dir(folder) {
+        count_in(fs, folder)
+    } else {
+        Some(0)
+    }
+}
+
+fn count_at_top(files: &[(&str, usize)]) -> usize {
     let mut counted: usize = 0;
-    if fs.is_dir(main) {
-        counted = count_in(alloc, fs, main)?;
-    }
-    if fs.is_dir(spill) && main != spill {
-        counted = counted.saturating_add(count_in(alloc, fs, spill)?);
-    }
-    for (path, _) in row.files {
+    for (path, _) in files {
         if !path.contains("/") {
             counted = counted.saturating_add(1);
         }
     }
-    Ok(have_lengths(alloc, fs, row.files)? && counted == row.files.len())
+    counted
 }
 
-fn is_as_said<F: FileSystem + Drop>(
-    alloc: Global,
-    mut fs: F,
-    row: &Opening,
-) -> Result<bool, Fault> {
-    store_all(alloc, &mut fs, row.stored)?;
-    let builder = begun_in(alloc, &settings(alloc, &row.folders)?, fs)?;
-    match opened(builder, row)? {
-        Some(mut files) => have_stayed(alloc, &mut files, row),
-        None => Ok(false),
+// Whether these files stand alone, with these lengths.
+fn have_stayed<F: FileSystem>(fs: &mut F, row: &Opening) -> bool {
+    let (main, spill) = row.folders;
+    let spilled = if main == spill {
+        Some(0)
+    } else {
+        count_below(fs, spill)
+    };
+    match (count_below(fs, main), spilled) {
+        (Some(first), Some(second)) => {
+            let below = first.saturating_add(second);
+            have_lengths(fs, row.files)
+                && below.saturating_add(count_at_top(row.files)) == row.files.len()
+        }
+        _ => false,
     }
 }
 
-fn is_scanned_in_memory(alloc: Global, row: &Scan) -> Result<bool, Fault> {
-    let mut fs = MemoryFileSystem::new(alloc);
-    is_scanned(alloc, &mut fs, row)
+// An opening of these files in the settings of the row.
+fn begun_over<F: FileSystem + Drop>(
+    alloc: Global,
+    fs: F,
+    row: &Opening,
+) -> Result<DualPipesBuilder<F>, Fault> {
+    begun_in(alloc, &settings(alloc, &row.folders)?, fs)
+}
+
+pub(crate) fn is_as_said<F: Failing>(alloc: Global, row: &Opening) -> bool {
+    let mut fs = F::fresh(alloc);
+    if !stores_all(&mut fs, row.stored) {
+        return false;
+    }
+    let left = match begun_over(alloc, fs, row) {
+        Ok(builder) => opened(alloc, builder, row),
+        Err(_) => None,
+    };
+    match left {
+        Some(mut files) => have_stayed(&mut files, row),
+        None => false,
+    }
 }
 
 #[test]
 fn the_second_folders_files_are_kept(rt: HostRuntime) {
     for row in &SCANS {
-        assert_row(&rt, is_scanned_in_memory(rt.alloc(), row), row.name);
+        let held = holds_in_memory(rt.alloc(), &Tried::Scan(row));
+        assert_row(&rt, held, row.name);
     }
-}
-
-fn is_so_in_memory(alloc: Global, row: &Opening) -> Result<bool, Fault> {
-    is_as_said(alloc, MemoryFileSystem::new(alloc), row)
 }
 
 #[test]
 fn both_folders_are_opened(rt: HostRuntime) {
     for rows in &openings() {
         for row in *rows {
-            assert_row(&rt, is_so_in_memory(rt.alloc(), row), row.name);
+            let held = holds_in_memory(rt.alloc(), &Tried::Folders(row));
+            assert_row(&rt, held, row.name);
         }
     }
 }

@@ -1,33 +1,34 @@
 //! Both queues of a folder, opened in stages: what is read of each, where their files are cut, and what is left of them.
 
-use crate::folders::{HEADER, begun, stand_alone, store};
+use crate::failing::Failing;
+use crate::folders::{HEADER, begun, stand_alone, stores_all};
+use crate::keys::Keys;
 use crate::told::assert_row;
-use raft_builder::{Cut, DualPipesBuilder};
+use crate::tried::{Tried, holds_in_memory};
+use raft_builder::{Cut, DefaultMachineFactory, DualPipesBuilder};
 use raft_env::FileSystem;
-use raft_memory::MemoryFileSystem;
-use raft_opening::ReplayMachine;
-use raft_queues::DualPipes;
-use raft_records::{Factory, Fault, FileId, LogItem, LogQueue};
+use raft_records::{Fault, FileId, Fresh, LogQueue};
+use raft_rows::FileParts;
 use std::alloc::Global;
 
 /// A record of 28 bytes, signed for file 1 of either queue, and one for file 2; by Python's struct and zlib.
-pub(super) const PUT_1: &[u8] =
+pub(crate) const PUT_1: &[u8] =
     b"\x00\x00\x00\x00\x00\x00\x1c\x00\x00\x00\x00\x00\x00\x00\x00\x10\x01\x01\x03\x01\x01\x61\x01\x01\xf9\x48\xbe\x2b";
 
-pub(super) const PUT_2: &[u8] =
+pub(crate) const PUT_2: &[u8] =
     b"\x00\x00\x00\x00\x00\x00\x1c\x00\x00\x00\x00\x00\x00\x00\x00\x10\x01\x01\x03\x01\x01\x62\x01\x02\x19\xa7\xf1\xb0";
 
 /// A file that is cut, by its queue and number, and how much of it is kept.
-pub(super) type Wanted = (LogQueue, u64, usize);
+pub(crate) type Wanted = (LogQueue, u64, usize);
 
-enum Step {
+pub(crate) enum Step {
     Scan,
     /// The scan fails with this code.
     ScanRefused(u8),
     /// So many batches are read of the queue.
-    Read(LogQueue, u64),
+    Read(LogQueue, usize),
     /// Both queues are read in order: so many batches of the Append queue, and of the Rewrite queue.
-    ReadBoth(u64, u64),
+    ReadBoth(usize, usize),
     /// Reading the queue fails with this code.
     ReadRefused(LogQueue, u8),
     /// The files that are cut, by queue and number, with how much of them is kept.
@@ -36,25 +37,19 @@ enum Step {
 
 /// Files and their bytes before the opening, its stages, the last file of each queue or the code with which the opening
 /// isn't finished, and the files after it with their lengths.
-struct Case {
+pub(crate) struct Case {
     name: &'static str,
-    stored: &'static [(&'static str, &'static [&'static [u8]])],
+    stored: &'static [FileParts],
     steps: &'static [Step],
     finished: Result<(u64, u64), u8>,
     files: &'static [(&'static str, usize)],
 }
 
-pub(super) const APPEND_1: (&str, &[&[u8]]) = ("data/0000000000000001.raftlog", &[HEADER, PUT_1]);
+pub(crate) const APPEND_1: FileParts = ("data/0000000000000001.raftlog", &[HEADER, PUT_1]);
 
-pub(super) const APPEND_2: (&str, &[&[u8]]) = (
-    "data/0000000000000002.raftlog",
-    &[HEADER, PUT_2, b"\x07"],
-);
+pub(crate) const APPEND_2: FileParts = ("data/0000000000000002.raftlog", &[HEADER, PUT_2, b"\x07"]);
 
-pub(super) const REWRITE_1: (&str, &[&[u8]]) = (
-    "data/0000000000000001.rewrite",
-    &[HEADER, PUT_1, PUT_2],
-);
+pub(crate) const REWRITE_1: FileParts = ("data/0000000000000001.rewrite", &[HEADER, PUT_1, PUT_2]);
 
 static REFUSED: [Case; 3] = [
     Case {
@@ -178,71 +173,43 @@ fn cases() -> [&'static [Case]; 5] {
     ]
 }
 
-/// Counts batches.
-#[derive(Drop)]
-struct Counter {
-    batches: u64,
-}
-
-impl ReplayMachine for Counter {
-    ghost stands_for = { λ queue blocks earlier machine batches. Unit {0} };
-
-    fn replay(&mut self, _items: &mut Vec<LogItem>, _file: FileId) -> Result<(), Fault> {
-        self.batches = self.batches.saturating_add(1);
-        Ok(())
-    }
-}
-
-struct CounterFactory {}
-
-impl Factory<Counter> for CounterFactory {
-    ghost is_new = { λ counter. Unit {0} };
-
-    fn new_target(&self) -> Result<Counter, Fault> {
-        Ok(Counter { batches: 0 })
-    }
-}
-
-// How many batches are read of the queue.
-pub(super) fn read<F: FileSystem>(
+// How many batches are read of the queue, or the code with which that fails. Each puts one key.
+fn read<F: FileSystem>(
+    alloc: Global,
     builder: &mut DualPipesBuilder<F>,
     queue: LogQueue,
-) -> Result<u64, Fault> {
-    let mut machine = Counter { batches: 0 };
-    builder.recover_queue_in_order(queue, &mut machine)?;
-    Ok(machine.batches)
-}
-
-fn read_each<F: FileSystem>(builder: &mut DualPipesBuilder<F>) -> Result<(), Fault> {
-    builder.scan()?;
-    read(builder, LogQueue::Rewrite)?;
-    read(builder, LogQueue::Append)?;
-    Ok(())
-}
-
-// The pipes of the files that the opening finds, each of which is read, and the files.
-pub(super) fn pipes_of<F: FileSystem + Drop>(
-    mut builder: DualPipesBuilder<F>,
-) -> Result<(DualPipes<F>, F), Fault> {
-    if let Err(fault) = read_each(&mut builder) {
-        drop(builder);
-        return Err(fault);
-    }
-    match builder.finish() {
-        Ok(done) => Ok(done),
-        Err((fault, _files)) => Err(fault),
+) -> Result<usize, u8> {
+    let mut keys = Keys::fresh(alloc);
+    match builder.recover_queue_in_order(queue, &mut keys) {
+        Ok(()) => Ok(keys.found.len()),
+        Err(fault) => Err(fault.code()),
     }
 }
 
-// How many batches are read of the Append queue, and of the Rewrite queue.
-pub(super) fn read_both<F: FileSystem>(
+// The keys of the Append queue, and those of the Rewrite queue.
+pub(crate) fn read_keys<F: FileSystem>(
+    alloc: Global,
     builder: &mut DualPipesBuilder<F>,
-) -> Result<(u64, u64), Fault> {
-    let (appended, rewritten) = builder.recover_in_order(&CounterFactory {})?;
-    Ok((appended.batches, rewritten.batches))
+) -> Result<(Keys, Keys), Fault> {
+    builder.recover_in_order(&DefaultMachineFactory::new(alloc))
 }
 
-pub(super) fn are_cuts(cuts: &[Cut], wanted: &[Wanted]) -> bool {
+/// Whether so many batches are read of the Append queue, and of the Rewrite queue.
+pub(crate) fn reads_both<F: FileSystem>(
+    alloc: Global,
+    builder: &mut DualPipesBuilder<F>,
+    appended: usize,
+    rewritten: usize,
+) -> bool {
+    match read_keys(alloc, builder) {
+        Ok((append, rewrite)) => {
+            append.found.len() == appended && rewrite.found.len() == rewritten
+        }
+        Err(_) => false,
+    }
+}
+
+pub(crate) fn are_cuts(cuts: &[Cut], wanted: &[Wanted]) -> bool {
     for (cut, (queue, seq, len)) in cuts.iter().zip(wanted) {
         let is_wanted = cut.id == FileId::new(*queue, *seq) && cut.len == *len;
         if !is_wanted {
@@ -252,7 +219,7 @@ pub(super) fn are_cuts(cuts: &[Cut], wanted: &[Wanted]) -> bool {
     cuts.len() == wanted.len()
 }
 
-pub(super) fn is_refused_as<T: Drop>(answer: Result<T, Fault>, code: u8) -> bool {
+pub(crate) fn is_refused_as<T: Drop>(answer: Result<T, Fault>, code: u8) -> bool {
     match answer {
         Ok(_answer) => false,
         Err(fault) => fault.code() == code,
@@ -260,36 +227,35 @@ pub(super) fn is_refused_as<T: Drop>(answer: Result<T, Fault>, code: u8) -> bool
 }
 
 // Whether the step comes to what it says.
-fn holds<F: FileSystem>(builder: &mut DualPipesBuilder<F>, step: &Step) -> Result<bool, Fault> {
+fn holds<F: FileSystem>(alloc: Global, builder: &mut DualPipesBuilder<F>, step: &Step) -> bool {
     match step {
-        Step::Scan => {
-            builder.scan()?;
-            Ok(true)
-        }
-        Step::ScanRefused(code) => Ok(is_refused_as(builder.scan(), *code)),
-        Step::Read(queue, batches) => Ok(read(builder, *queue)? == *batches),
-        Step::ReadBoth(appended, rewritten) => Ok(read_both(builder)? == (*appended, *rewritten)),
-        Step::ReadRefused(queue, code) => Ok(is_refused_as(read(builder, *queue), *code)),
-        Step::Cuts(wanted) => Ok(are_cuts(builder.cuts(), wanted)),
+        Step::Scan => builder.scan().is_ok(),
+        Step::ScanRefused(code) => is_refused_as(builder.scan(), *code),
+        Step::Read(queue, batches) => read(alloc, builder, *queue) == Ok(*batches),
+        Step::ReadBoth(appended, rewritten) => reads_both(alloc, builder, *appended, *rewritten),
+        Step::ReadRefused(queue, code) => read(alloc, builder, *queue) == Err(*code),
+        Step::Cuts(wanted) => are_cuts(builder.cuts(), wanted),
     }
 }
 
-fn are_taken<F: FileSystem>(
+fn all_hold<F: FileSystem>(
+    alloc: Global,
     builder: &mut DualPipesBuilder<F>,
     steps: &[Step],
-) -> Result<bool, Fault> {
-    let mut are_right = true;
+) -> bool {
     for step in steps {
-        are_right = holds(builder, step)? && are_right;
+        if !holds(alloc, builder, step) {
+            return false;
+        }
     }
-    Ok(are_right)
+    true
 }
 
 /// The first file and the last one of each queue, or the code with which the opening isn't finished.
-pub(super) type Ended = Result<((u64, u64), (u64, u64)), u8>;
+pub(crate) type Ended = Result<((u64, u64), (u64, u64)), u8>;
 
-// The files after the end of an opening.
-pub(super) fn finished<F: FileSystem + Drop>(builder: DualPipesBuilder<F>) -> (Ended, F) {
+/// The files after the end of an opening.
+pub(crate) fn finished<F: FileSystem + Drop>(builder: DualPipesBuilder<F>) -> (Ended, F) {
     match builder.finish() {
         Ok((pipes, files)) => {
             let append = pipes.file_span(LogQueue::Append);
@@ -301,8 +267,8 @@ pub(super) fn finished<F: FileSystem + Drop>(builder: DualPipesBuilder<F>) -> (E
     }
 }
 
-// The code with which an opening isn't finished.
-pub(super) fn code_of(ended: Ended) -> Option<u8> {
+/// The code with which an opening isn't finished.
+pub(crate) fn code_of(ended: Ended) -> Option<u8> {
     match ended {
         Ok(_spans) => None,
         Err(code) => Some(code),
@@ -319,37 +285,41 @@ fn is_end(ended: Ended, wanted: &Result<(u64, u64), u8>) -> bool {
     }
 }
 
-// The files after the opening, if its steps and its end come to what they say.
-fn opened<F: FileSystem + Drop>(alloc: Global, fs: F, case: &Case) -> Result<Option<F>, Fault> {
-    let mut builder = begun(alloc, fs)?;
-    let taken = are_taken(&mut builder, case.steps);
-    let (ended, files) = finished(builder);
-    if taken? && is_end(ended, &case.finished) {
-        Ok(Some(files))
-    } else {
-        Ok(None)
+/// The end of an opening and the files after it, if its steps come to what they say.
+pub(crate) fn staged<F: FileSystem + Drop>(
+    alloc: Global,
+    fs: F,
+    steps: &[Step],
+) -> Option<(Ended, F)> {
+    match begun(alloc, fs) {
+        Ok(mut builder) => {
+            let held = all_hold(alloc, &mut builder, steps);
+            let done = finished(builder);
+            if held { Some(done) } else { None }
+        }
+        Err(_) => None,
     }
 }
 
-fn is_as_said<F: FileSystem + Drop>(alloc: Global, mut fs: F, case: &Case) -> Result<bool, Fault> {
-    for (path, parts) in case.stored {
-        store(alloc, &mut fs, path, parts)?;
+pub(crate) fn is_as_said<F: Failing>(alloc: Global, case: &Case) -> bool {
+    let mut fs = F::fresh(alloc);
+    if !stores_all(&mut fs, case.stored) {
+        return false;
     }
-    match opened(alloc, fs, case)? {
-        Some(mut files) => stand_alone(alloc, &mut files, case.files),
-        None => Ok(false),
+    match staged(alloc, fs, case.steps) {
+        Some((ended, mut files)) => {
+            is_end(ended, &case.finished) && stand_alone(&mut files, case.files)
+        }
+        None => false,
     }
-}
-
-fn is_so_in_memory(alloc: Global, case: &Case) -> Result<bool, Fault> {
-    is_as_said(alloc, MemoryFileSystem::new(alloc), case)
 }
 
 #[test]
 fn both_queues_are_opened_in_stages(rt: HostRuntime) {
     for cases in &cases() {
         for case in *cases {
-            assert_row(&rt, is_so_in_memory(rt.alloc(), case), case.name);
+            let held = holds_in_memory(rt.alloc(), &Tried::Stages(case));
+            assert_row(&rt, held, case.name);
         }
     }
 }

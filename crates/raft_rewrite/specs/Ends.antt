@@ -23,12 +23,11 @@ use Rattle.raft_rewrite.specs.Rewrites.{RewritesIn}
 use Rattle.raft_rewrite.specs.declared.group_rewriter.GroupRewriter.{GroupRewriter}
 
 module _ {F H R W : Type 0} (fs : FsGhosts F H R W) where
-  -- a call writes these entries, the last ones of a group, and its values, and ends its atomic
-  -- group; the items of the earlier batches stand at these places
+  -- a call writes the last entries of a group and its values, and so ends its atomic group
   pub record EndsAtomic {T L : Type 0} {g : Ghosts L} (result : Result T StepFault) (id group : ℕ)
       (entries : List (ℕ × EntryPlace)) (placed : List PlacedItem) (r r' : GroupRewriter)
       (l l' : Log F H R W) (events events' : PurgeEvents L g) : Type 0 where
-    -- no atomic group stands open then, and nothing is gathered
+    -- no atomic group is open afterwards, and nothing is gathered
     pub ok : OnOk result ((later : List ℕ) → EndsGroup id
         (IsOpen id group entries placed (gathered_in fs r l))
         (IsRenewed later (gathered_in fs r' l')))
@@ -36,14 +35,13 @@ module _ {F H R W : Type 0} (fs : FsGhosts F H R W) where
     pub any_moment : Moves fs (RecoversRenewal (IsOpen id group entries placed (gathered_in fs r l)))
         l.store l'.store
     pub rewrites : RewritesIn fs result KeepsCut r r' l.store l'.store events events'
-    -- nothing of the group is left in files before one that the queue had, where the entries that
-    -- were to be moved are these and those that the earlier batches set
+    -- nothing of the group is left in old files, if these and earlier batches were all of it
     pub emptied : OnOk result ((first : ℕ) (done : List (ℕ × EntryPlace))
         → first ≤ last_seq l.store.pipes.rewrite → r.rewriting.watermark ≡ None
         → AreSetFrom first group done placed
         → done ++ entries ≡ entries_to_move (gathered_in fs r l) group
         → IsAllFrom first (or_empty (tables_of l'.tables group)))
-    -- .. nor of a group of which nothing was there
+    -- a group that had nothing in the old files still has nothing there
     pub moved : OnOk result ((first : ℕ) → first ≤ last_seq l.store.pipes.rewrite
         → r.rewriting.watermark ≡ None → Each (λ item. StandsFrom first item.content) placed
         → (other : ℕ) → IsAllFrom first (or_empty (tables_of l.tables other))

@@ -1,4 +1,4 @@
--- A log that is being written anew, and one in whose Rewrite queue an atomic group stands open.
+-- A log in a renewal, and one with an open atomic group in its Rewrite queue.
 use Rattle.std.specs.Prelude.{ℕ, List, map}
 use Rattle.raft_env.specs.declared.env.FileSystem.{Ghosts}
 use Rattle.raft_records.specs.LogItem.{placed_item_of}
@@ -19,17 +19,16 @@ use Rattle.raft_rewrite.specs.declared.group_rewriter.GroupRewriter.{GroupRewrit
 use Rattle.raft_rewrite.specs.declared.group_rewriter.open_group.OpenGroup.{OpenGroup}
 
 module _ {F H R W : Type 0} (fs : Ghosts F H R W) where
-  -- a log whose groups before these are written anew or gathered
+  -- a log in a renewal, of which all groups before these are written or gathered
   abbrev pub Renewed : List ℕ → GroupRewriter → Log F H R W → Owed → KnownGroups → Renewal
       → LogValue → Type 0
   Renewed later r l = IsRenewed later (gathered fs r l)
 
-  -- a log that isn't written anew any more
+  -- a log that is in no renewal any more
   abbrev pub Ended : GroupRewriter → Log F H R W → Owed → KnownGroups → Renewal → LogValue → Type 0
   Ended r l = IsEnded (gathered fs r l)
 
-  -- an atomic group is begun, and these of its entries are still to be written; the batches before
-  -- placed these items
+  -- an atomic group is open; these entries are to be written, and these items are placed
   abbrev pub OpenIn : OpenGroup → List EntryIndex → List LogItem → GroupRewriter
       → LogStore F H R W → Tables → Owed → KnownGroups → Renewal → LogValue → Type 0
   OpenIn atomic entries placed r s t = IsOpen atomic.mark.id atomic.group (map placed_entry entries)

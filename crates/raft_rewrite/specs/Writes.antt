@@ -1,4 +1,4 @@
--- What a record of the Rewrite queue makes of the log, and of the batch that it holds.
+-- What a record of the Rewrite queue does to the log, and to its batch.
 use Rattle.std.specs.Prelude.{◌≡◌, ◌∷◌, IfErr, IfOk, [], OnErr, OnOk, Result}
 use Rattle.raft_base.specs.declared.errors.Fault.{Fault}
 use Rattle.raft_base.specs.declared.pipe_log.FileBlockHandle.{FileBlockHandle}
@@ -18,14 +18,13 @@ use Rattle.raft_purge_steps.specs.declared.log_store.LogStore.{LogStore}
 use Rattle.raft_rewrite.specs.OpenGroup.{IsWrittenAt}
 use Rattle.raft_rewrite.specs.declared.rewriting.Rewriting.{Rewriting}
 
--- the batch is empty once it is written, and stays where it isn't; the watermark is the same
+-- the batch is empty after `Ok`, and as before after `Err`; the watermark is the same
 pub record Drains {T : Type 0} (result : Result T StepFault) (r r' : Rewriting) : Type 0 where
   pub emptied : OnOk result (r'.batch.items ≡ [])
   pub kept : OnErr result (r'.batch.items ≡ r.batch.items)
   pub watermark : r'.watermark ≡ r.watermark
 
--- the Rewrite queue's pipe alone goes on. Unless the log is in doubt both stand side by side, and
--- where the call is refused it holds what it held, whatever stands for it in memory
+-- the Append queue's pipe is unchanged, and after `Stands` the log is kept under each index
 pub record LeavesLog {T L : Type 0} {g : Ghosts L} (result : Result T StepFault) (d d' : DualState)
     (n n' : Directory) (events events' : PurgeEvents L g) : Type 0 where
   pub keeps : KeepsRewriting result d d' events events'
@@ -33,8 +32,7 @@ pub record LeavesLog {T L : Type 0} {g : Ghosts L} (result : Result T StepFault)
   pub side : IfStands result (StandSideBySide d' n')
 
 module _ {F H R W : Type 0} (fs : FsGhosts F H R W) where
-  -- this batch stands in the Rewrite queue then; at each moment a crash finds what the log held,
-  -- with the batch or without
+  -- the batch is at the end of the Rewrite queue; a crash inside finds what the log held
   pub record WritesBatch {L : Type 0} {g : Ghosts L} (result : Result FileBlockHandle StepFault)
       (batch : Batch) (IsUnfit : Fault → Type 0) (s s' : LogStore F H R W)
       (events events' : PurgeEvents L g) : Type 0 where

@@ -3,6 +3,7 @@
 #![tactic(auto)]
 
 mod salvaging;
+mod source_log;
 mod takeover;
 
 pub use salvaging::salvage;

@@ -1,11 +1,12 @@
 //! Whole records of damaged files, in a new log.
 
+use crate::source_log::SourceLog;
 use anyhow::{Result, anyhow, bail};
 use raft_command_line::{Request, Salvage, Verb};
 use raft_commands::change_by;
 use raft_console::{Output, Status};
 use raft_contents::{Material, TableImport};
-use raft_gathering::{Gathering, gather, print_groups, sources_of};
+use raft_gathering::{Gathering, Source, gather, named_sources, print_groups, sources_of};
 use raft_inspect::Filter;
 use std::fs::{self, File};
 use std::io::{self, ErrorKind};
@@ -13,34 +14,74 @@ use std::thread::Threads;
 
 /// Reads every whole record of the request's folder, or of the files that are named, and writes
 /// what they stand for into a new folder. It prints how many records each file has, what could not
-/// be read and why, and of each group what came back. Nothing is changed in the request's folder.
-/// The new log is made under the name `TARGET.part`, and gets its own name once it is whole and
-/// synced.
+/// be read and why, and of each group what came back. Standard error has the plan of an opening of
+/// the folder; if that has losses, the status is 4. Nothing is changed in the request's folder. The
+/// new log is made under the name `TARGET.part`, and gets its own name once it is whole and synced.
 pub fn salvage<R: Threads + Sync>(
     rt: HostRuntime,
     threads: &R,
     request: &Request<'_>,
     asked: &Salvage<'_>,
 ) -> Result<Status> {
-    let is_dry = request.options.changing.dry_run;
-    let part = format!(in rt.alloc(); "{}.part", asked.target)?;
-    if !is_dry {
-        check_target(&rt, asked.target, part.as_str())?;
+    if !request.options.changing.dry_run {
+        check_target(&rt, asked.target, part_of(&rt, asked)?.as_str())?;
     }
-    let sources = sources_of(&rt, request.folder, request.options.spill, &asked.files)?;
+    let mut status = Status::Done;
+    let sources = find_sources(rt, request, asked, &mut status)?;
+    let gathering = gather(&rt, &sources, asked.stale, &request.options)?;
+    tell(rt, request, &gathering)?;
+    if !gathering.report.is_whole() {
+        status = Status::WouldCut;
+    }
+    if request.options.changing.dry_run {
+        return Ok(status);
+    }
+    write(rt, threads, request, asked, &gathering, status)
+}
+
+// The files that are read. What an opening of the folder loses besides is told, and changes the
+// status.
+fn find_sources(
+    rt: HostRuntime,
+    request: &Request<'_>,
+    asked: &Salvage<'_>,
+    status: &mut Status,
+) -> Result<Vec<Source>> {
+    let options = &request.options;
+    if !asked.files.is_empty() {
+        return named_sources(rt.alloc(), request.folder, &asked.files);
+    }
+    let log = SourceLog::look_at(rt, request.folder, options)?;
+    if !options.quiet {
+        log.plan.tell(&rt, options)?;
+    }
+    if log.plan.status() != Status::Done {
+        *status = Status::WouldCut;
+    }
+    let mut sources = sources_of(&rt, request.folder, options.spill, asked.stale)?;
+    if !asked.stale {
+        log.drop_left_over(&mut sources);
+    }
     if sources.is_empty() {
         bail!("{}: no log file", request.folder);
     }
-    let gathering = gather(&rt, &sources, asked.stale, &request.options)?;
-    tell(rt, request, &gathering)?;
-    let status = if gathering.report.is_whole() {
-        Status::Done
-    } else {
-        Status::WouldCut
-    };
-    if is_dry {
-        return Ok(status);
-    }
+    Ok(sources)
+}
+
+// The name of the new log until it is whole.
+fn part_of(rt: &HostRuntime, asked: &Salvage<'_>) -> Result<String> {
+    Ok(format!(in rt.alloc(); "{}.part", asked.target)?)
+}
+
+fn write<R: Threads + Sync>(
+    rt: HostRuntime,
+    threads: &R,
+    request: &Request<'_>,
+    asked: &Salvage<'_>,
+    gathering: &Gathering,
+    status: Status,
+) -> Result<Status> {
+    let part = part_of(&rt, asked)?;
     let mut options = request.options;
     options.spill = None;
     let target = Request::new(part.as_str(), options, Verb::Settings, false);

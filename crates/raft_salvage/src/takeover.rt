@@ -1,11 +1,13 @@
 //! The contents of another log's folder, written to this one with its settings.
 
+use crate::source_log::SourceLog;
 use anyhow::{Result, bail};
-use raft_command_line::{Import, Request};
+use raft_command_line::{Import, Options, Request};
 use raft_commands::change_by;
 use raft_console::{Output, Status, tell};
 use raft_contents::{LineImport, Material, TableImport, filter_of};
-use raft_gathering::{Gathering, Part, Source, gather, sources_of};
+use raft_gathering::{Part, Report, Source, gather, sources_of};
+use raft_opening_plan::Plan;
 use std::thread::Threads;
 
 /// Writes the batches of lines that `dump --json` printed, in their order. Nothing is written if a
@@ -21,9 +23,9 @@ pub fn import_lines<R: Threads + Sync>(
 }
 
 /// Writes what another folder's log files stand for, whose entries may be compressed by LZ4. Where
-/// more of them can't be read than the end of a queue, nothing is done without `--cut`, and the
-/// status is 7; where the end of a queue can't be read it is left out and told, and the status is
-/// 4.
+/// more of that log is lost than the end of a queue, nothing is done without `--cut`, and the status
+/// is 7. Where the end of a queue can't be read it is left out and told. Then, and with `--cut`, the
+/// status is 4.
 pub fn import_folder<R: Threads + Sync>(
     rt: HostRuntime,
     threads: &R,
@@ -31,14 +33,17 @@ pub fn import_folder<R: Threads + Sync>(
     import: Import<'_>,
     folder: &str,
 ) -> Result<Status> {
-    let mut sources = sources_of(&rt, folder, import.spill, &[])?;
+    let log = look_at(rt, request, import, folder)?;
+    let mut sources = sources_of(&rt, folder, import.spill, false)?;
     sources.retain(|source| source.part == Part::Log);
+    log.drop_left_over(&mut sources);
     if sources.is_empty() {
+        log.plan.tell(&rt, &request.options)?;
         bail!("{folder}: no log file");
     }
     check_single(&sources)?;
     let gathering = gather(&rt, &sources, false, &request.options)?;
-    let Some(status) = judge(rt, request, folder, &gathering)? else {
+    let Some(status) = judge(rt, request, folder, &log.plan, &gathering.report)? else {
         return Ok(Status::Refused);
     };
     let mut material = Material::Tables(TableImport {
@@ -47,6 +52,21 @@ pub fn import_folder<R: Threads + Sync>(
         status,
     });
     change_by(rt, threads, request, &mut material)
+}
+
+// What an opening of the other log does not read. The import has an option of its own for the second
+// folder.
+fn look_at(
+    rt: HostRuntime,
+    request: &Request<'_>,
+    import: Import<'_>,
+    folder: &str,
+) -> Result<SourceLog> {
+    let mut options = request.options;
+    options.spill = import.spill;
+    let mut log = SourceLog::look_at(rt, folder, &options)?;
+    log.plan.name_source(rt.alloc())?;
+    Ok(log)
 }
 
 // The sources are in the order of their numbers.
@@ -65,27 +85,45 @@ fn check_single(sources: &[Source]) -> Result<()> {
     Ok(())
 }
 
-// Tells what could not be read, and whether the import goes on.
+// Tells what is lost of the other log, and the status with which the import goes on; none if it does
+// not.
 fn judge(
     rt: HostRuntime,
     request: &Request<'_>,
     folder: &str,
-    gathering: &Gathering,
+    plan: &Plan,
+    report: &Report,
 ) -> Result<Option<Status>> {
-    let report = &gathering.report;
-    if report.is_whole() {
+    let options = &request.options;
+    let is_partial = plan.refusing().is_some();
+    if is_partial || !options.quiet {
+        plan.tell(&rt, options)?;
+    }
+    if report.is_whole() && !is_partial {
         return Ok(Some(Status::Done));
     }
-    let mut out = Output::new(rt, &request.options);
+    let mut out = Output::new(rt, options);
     report.print(&mut out)?;
     out.print()?;
-    if report.loses_ends_alone() || request.options.changing.cut {
+    let loses_ends_alone = report.loses_ends_alone() && !is_partial;
+    if loses_ends_alone || options.changing.cut {
         return Ok(Some(Status::WouldCut));
     }
-    let text = format!(in rt.alloc();
-        "{folder}: more than the end of a queue cannot be read, and nothing was done: \
-        `raftctl {folder} salvage TARGET` tells what comes back, `--cut` imports it"
-    )?;
-    tell(&rt, request.options.json, "error", text.as_str())?;
+    refuse(rt, options, folder, is_partial)?;
     Ok(None)
+}
+
+fn refuse(rt: HostRuntime, options: &Options<'_>, folder: &str, is_partial: bool) -> Result<()> {
+    let text = if is_partial {
+        format!(in rt.alloc();
+            "{folder}: not all of that log is read, and nothing was done: the plan above says what \
+            mends it, `--cut` imports the rest"
+        )?
+    } else {
+        format!(in rt.alloc();
+            "{folder}: more than the end of a queue cannot be read, and nothing was done: \
+            `raftctl {folder} salvage TARGET` tells what comes back, `--cut` imports it"
+        )?
+    };
+    tell(&rt, options.json, "error", text.as_str())
 }

@@ -24,7 +24,7 @@ use Rattle.raft_script.specs.declared.operation.Outcome.TheVariants.{Size, Sizes
 abbrev pub indexed_bytes : ℕ × Vec ℕ Global → Entry
 indexed_bytes e = (e.0, e.1.items)
 
--- entries as one item, and nothing for none
+-- entries as one item, or no item if there are none
 abbrev pub entries_items : ℕ → List Entry → Batch
 entries_items group [] = []
 entries_items group (e ∷ es) = record { group = group; content = Entries (e ∷ es) } ∷ []
@@ -41,43 +41,40 @@ items_of_act (act.Clean group) = Some (record { group = group; content = Clean }
 items_of_act (act.Compact group index) =
     Some (record { group = group; content = Compact index } ∷ [])
 
--- what is made of two values, where there are both
+-- f of two values, if both exist
 abbrev pub of_both : {A B C : Type 0} → (A → B → C) → Option A → Option B → Option C
 of_both f first second = option_and_then (λ a. option_map (f a) second) first
 
--- the batch of the acts, where none is refused
+-- the batch of the acts, if none of them is refused
 abbrev pub batch_of_acts : List Act → Option Batch
 batch_of_acts [] = Some []
 batch_of_acts (a ∷ acts) =
     of_both (λ items others. items ++ others) (items_of_act a) (batch_of_acts acts)
 
--- their items, and none where one of them is refused
+-- the items of the acts, or none if one of them is refused
 abbrev pub items_of_acts : List Act → Batch
 items_of_acts acts = unwrap_or (batch_of_acts acts) []
 
--- acts for a batch of a group, and whether it asks for a sync
+-- one batch of a `WriteGroup`: its acts, and whether it asks for a sync
 abbrev pub Part : Type 0
 Part = Vec Act Global × Bool
 
--- the batches of a group's parts, where there is one of each
+-- the batches of a group's parts, if each part has one
 abbrev pub batches_of_parts : List Part → Option (List Batch)
 batches_of_parts [] = Some []
 batches_of_parts (part ∷ parts) =
     of_both (λ batch others. batch ∷ others) (batch_of_acts part.0.items) (batches_of_parts parts)
 
--- .. and none where there isn't
+-- the batches of a group's parts, or none if a part has none
 abbrev pub group_batches : List Part → List Batch
 group_batches parts = unwrap_or (batches_of_parts parts) []
 
--- the batch of a write with numbers, at these contents: nothing where its acts make none, or it
--- doesn't act; each number has eight bytes
+-- what a write with numbers writes at these contents: nothing if it has no batch or doesn't act
 abbrev pub once_batch : Contents → Option Batch → List Pair → Batch
 once_batch m None pairs = []
 once_batch m (Some items) pairs = if are_numbers pairs then acting_batch m items pairs else []
 
--- the batches that an operation is to write, at these contents: nothing of a batch that would
--- change the number that a group keeps, but by a write with numbers; of a compaction the command,
--- where the group has entries
+-- the batches that an operation is to write at these contents
 abbrev pub batches_of_op : Contents → Op → List Batch
 batches_of_op m (Write acts sync) = plain_part (items_of_acts acts.items) ∷ []
 batches_of_op m (WriteGroup parts) = plain_parts (group_batches parts.items)
@@ -86,19 +83,18 @@ batches_of_op m (WriteOnce acts pairs sync) =
 batches_of_op m (CompactTo group index) = compact_batch group index (m.entries group) ∷ []
 batches_of_op m _ = []
 
--- what each of them was answered
+-- the results of those batches
 abbrev pub answers_in : Outcome → List (Result ℕ Fault)
 answers_in (Size answer) = answer ∷ []
 answers_in (Sizes (Ok answers)) = answers.items
 answers_in (Count answer) = answer ∷ []
 answers_in _ = []
 
--- those of them that were accepted
+-- those batches that were accepted
 abbrev pub accepted_of : Contents → Op → Outcome → List Batch
 accepted_of m op outcome = accepted_in (answers_in outcome) (batches_of_op m op)
 
--- the operation made sure of all that was accepted up to it: a sync or a purge that was answered,
--- or a write or a group that asked for one
+-- the operation made all durable: a successful sync or purge, or a write that requested a sync
 abbrev pub is_covering : Op → Outcome → Bool
 is_covering (Write acts sync) (Size (Ok len)) = sync
 is_covering (WriteOnce acts pairs sync) (Size (Ok len)) = sync
@@ -110,13 +106,12 @@ is_covering PurgeStale (Dropped (Ok count)) = true
 is_covering Purge (ToCompact (Ok groups)) = true
 is_covering _ _ = false
 
--- what may have been written in part, or whole, when a crash came in the operation: any choice of
--- its batches, in order, each where the contents after those chosen before it take it
+-- what a crash may find of an operation: a choice of its batches that the contents accept in turn
 abbrev pub MayBeInFlight : Contents → Op → List Batch → Type 0
 MayBeInFlight m op flight =
     ∥ ((choice : List Bool) × (flight ≡ chosen_of m choice (batches_of_op m op))) ∥₁
 
--- the operation was answered, and so not refused; of a read it says nothing
+-- the operation succeeded; reads are not counted
 abbrev pub is_answered : Outcome → Bool
 is_answered (Size answer) = is_ok answer
 is_answered (Sizes answer) = is_ok answer

@@ -1,4 +1,4 @@
--- What an operation asks of an engine, by the clause of the call itself.
+-- Which call of an engine an operation makes, by the clause of the call itself.
 use Rattle.std.specs.Prelude.{◌≡◌, ◌⊎◌, ◌-◌, ◌^◌, List, length, IsErrAnd, IsSomeAnd}
 use Rattle.std.specs.List.{list_any}
 use Rattle.raft_env.specs.declared.env.FileSystem.{Ghosts}
@@ -18,8 +18,7 @@ use Rattle.raft_script.specs.declared.operation.Outcome.TheVariants as reply
 use Rattle.raft_script.specs.declared.operation.Outcome.TheVariants.{Size, Sizes, Done, Value, Count, Index, Dropped, ToCompact}
 
 module _ {F H R W : Type 0} {g : Ghosts F H R W} where
-  -- an operation is a call of this engine, answered so, by the call's own clause; what couldn't be built
-  -- doesn't reach the engine
+  -- an operation is a call of this engine with this result; a write without a batch isn't one
   abbrev pub IsCalled : Op → Outcome → Engine F H R W g → Engine F H R W g → Type 0
   IsCalled (Write acts sync) (Size answer) e e' =
       ((e' ≡ e) × IsErrAnd answer (IsUnbuilt acts.items))

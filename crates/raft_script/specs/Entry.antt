@@ -18,11 +18,11 @@ bytes_of_entry e = text_bytes e.index e.word.items
 abbrev pub IsTextOf : List ℕ → TextEntry → Type 0
 IsTextOf bytes e = (e.index < 2 ^ 64) × (bytes ≡ bytes_of_entry e)
 
--- its index
+-- the index of an entry of text
 abbrev pub index_of : TextEntry → ℕ
 index_of e = e.index
 
--- the indexes of the first entry and of the last, where there are entries
+-- the indexes of the first and the last entry, if there are entries
 abbrev pub range_of : {X : Type 0} → List (ℕ × X) → Option (ℕ × ℕ)
 range_of entries = option_and_then (λ first. option_map (λ last. (first, last))
     (last_index_of entries)) (first_index_of entries)
@@ -31,6 +31,6 @@ range_of entries = option_and_then (λ first. option_map (λ last. (first, last)
 abbrev pub text_entry : List ℕ → ℕ → Entry
 text_entry word index = (index, text_bytes index word)
 
--- .. with each index from `first` to `last`
+-- entries of text with each index from `first` to `last`
 abbrev pub text_entries : ℕ → ℕ → List ℕ → List Entry
 text_entries first last word = map (text_entry word) (range_with_len first (last + 1 - first))

@@ -12,48 +12,47 @@ use Rattle.raft_script.specs.declared.operation.Outcome.{Outcome}
 use Rattle.raft_script.specs.declared.operation.Outcome.TheVariants as reply
 use Rattle.raft_script.specs.declared.operation.Outcome.TheVariants.{Size, Sizes, Done, Value, Count, Index, Dropped, ToCompact}
 
--- by storage, or for lack of memory
+-- the fault is by storage, or for lack of memory
 abbrev pub IsStorageOrMemory : Fault → Type 0
 IsStorageOrMemory (fault.Io kind path) = Unit {0}
 IsStorageOrMemory fault.Memory = Unit {0}
 IsStorageOrMemory _ = ⊥
 
--- .. or for want of space
+-- the fault is by storage, for lack of memory, or for lack of space
 abbrev pub IsPurgeFailure : Fault → Type 0
 IsPurgeFailure fault.TryAgain = Unit {0}
 IsPurgeFailure e = IsStorageOrMemory e
 
--- .. or, behind the first batch of an atomic group, for each other cause
+-- IsPurgeFailure, or any cause of a purge while an atomic group is open
 abbrev pub IsRenewalFailure : Fault → Type 0
 IsRenewalFailure fault.Range = Unit {0}
 IsRenewalFailure (fault.InvalidArgument text) = Unit {0}
 IsRenewalFailure e = IsPurgeFailure e
 
--- an engine answers so and fails, or doesn't; an answer that isn't the engine's is one of the
--- others
+-- the result of a call, and whether the engine fails in it; Other: faults before it is reached
 pub record FailsFor {T : Type 0} (IsCause : Fault → Type 0) (failed : Bool)
     (answer : Result T Fault) (fails : Bool) (Other : Fault → Type 0) : Type 0 where
-  -- it stays failed
+  -- a failed engine stays failed
   pub still : failed ≡ true → fails ≡ true
-  -- a failure is told where there was one, and nowhere else
+  -- `Failed` is returned only by an engine that had failed
   pub only_failed : answer ≡ Err fault.Failed → failed ≡ true
   pub refused : failed ≡ true → (answer ≡ Err fault.Failed) ⊎ IsErrAnd answer Other
-  -- it fails for such a cause alone
+  -- it fails only for such a cause
   pub cause : failed ≡ false → fails ≡ true → IsErrAnd answer IsCause
 
--- .. by storage or for lack of memory
+-- FailsFor, by storage or for lack of memory
 abbrev pub FailsBy : {T : Type 0} → Bool → Result T Fault → Bool → (Fault → Type 0) → Type 0
 FailsBy failed answer fails Other = FailsFor IsStorageOrMemory failed answer fails Other
 
--- .. in a purge, for such a cause
+-- FailsFor, in a purge, for such a cause
 abbrev pub FailsInPurge : {T : Type 0} → (Fault → Type 0) → Bool → Result T Fault → Bool → Type 0
 FailsInPurge IsCause failed answer fails = FailsFor IsCause failed answer fails (λ _. ⊥)
 
--- .. and has failed or not as before
+-- FailsBy, and the engine has failed or not as before
 abbrev pub IsSteadyBy : {T : Type 0} → Bool → Result T Fault → Bool → Type 0
 IsSteadyBy failed answer fails = FailsBy failed answer fails (λ _. ⊥) × (fails ≡ failed)
 
--- .. in an operation; a failed sync fails the engine, and a read doesn't
+-- whether an engine fails in an operation with this result; a failed sync fails it, a read doesn't
 abbrev pub IsFailing : Bool → Op → Outcome → Bool → Type 0
 IsFailing failed (Write acts sync) (Size answer) fails =
     FailsBy failed answer fails (IsUnbuilt acts.items)
@@ -80,13 +79,13 @@ IsFailing failed Purge (ToCompact answer) fails =
     FailsInPurge IsRenewalFailure failed answer fails
 IsFailing failed _ _ fails = ⊥
 
--- storage's refusal, also where there is no space
+-- the result is a refusal by storage, also for lack of space
 abbrev pub is_io : {T : Type 0} → Result T Fault → Bool
 is_io (Err (fault.Io kind path)) = true
 is_io (Err fault.TryAgain) = true
 is_io _ = false
 
--- .. of an operation
+-- the operation was refused by storage
 abbrev pub is_refused_by_storage : Outcome → Bool
 is_refused_by_storage (Size answer) = is_io answer
 is_refused_by_storage (Sizes answer) = is_io answer
@@ -99,17 +98,16 @@ is_refused_by_storage (reply.Groups answer) = is_io answer
 is_refused_by_storage (Dropped answer) = is_io answer
 is_refused_by_storage (ToCompact answer) = is_io answer
 
--- how many of an operation's answers storage refused: of a group those of its batches
+-- how many results of an operation are refusals by storage: for a group, those of its batches
 abbrev pub io_in : Outcome → ℕ
 io_in (Sizes (Ok answers)) = count_by is_io answers.items
 io_in outcome = cond (is_refused_by_storage outcome) 1 0
 
--- .. of all of them
+-- how many results of all operations are refusals by storage
 abbrev pub io_count : List Outcome → ℕ
 io_count outcomes = sum_by io_in outcomes
 
--- storage's count rose where the operation failed in it, by as many as the batches of a group that
--- did, and no count fell
+-- storage's count rose by as many results as it refused, and no count fell
 abbrev pub Refuses : Outcome → Refusals → Refusals → Type 0
 Refuses (Sizes (Ok answers)) old new =
     NoFewer old new × RoseBy (count_by is_io answers.items) old new

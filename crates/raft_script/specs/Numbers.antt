@@ -10,21 +10,20 @@ use Rattle.raft_script.specs.declared.operation.Op.{Op}
 use Rattle.raft_script.specs.declared.operation.Op.TheVariants.{WriteOnce}
 use Rattle.raft_script.specs.declared.operation.Outcome.{Outcome}
 
--- these batches of an operation as acts: without numbers, but of a write with numbers
+-- these batches of an operation as acts; only a write with numbers has numbers
 abbrev pub acts_in : Op → List Batch → List Act
 acts_in (WriteOnce acts pairs sync) batches =
     map (λ batch. record { items = items_of_acts acts.items; pairs = pairs.items }) batches
 acts_in op batches = map (λ batch. record { items = batch; pairs = [] }) batches
 
--- what operations wrote, in order, where these contents stood before them: of a purge, a sync, a
--- read, a refused write or one with old numbers nothing
+-- the acts of operations, in order, from these contents on: none if nothing was written
 abbrev pub acts_of : Contents → List Op → List Outcome → List Act
 acts_of m (op ∷ ops) (outcome ∷ outcomes) =
     acts_in op (accepted_of m op outcome)
     ++ acts_of (after_batches m (accepted_of m op outcome)) ops outcomes
 acts_of m _ _ = []
 
--- operations wrote by acts, from a start where these batches stood after these contents
+-- operations wrote by acts, and `before` was written between the start and them
 pub record HaveActed (start m : Contents) (before : List Batch) (ops : List Op)
     (outcomes : List Outcome) : Type 0 where
   -- each may be written at what those before it left, and so it raises the numbers that it has

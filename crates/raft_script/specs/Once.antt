@@ -13,31 +13,30 @@ use Rattle.raft_script.specs.declared.operation.Op.{Op}
 use Rattle.raft_script.specs.declared.operation.Outcome.{Outcome}
 use Rattle.raft_script.specs.Headline.{AreSafe, IsFound, IsMomentOf}
 
--- acts led from these contents to what is found: earlier ones, and the first so many of a run's, at
--- least as many as are covered. No number of a group acted twice, as long as the group isn't
--- cleaned; so each of a covered act acted exactly once
+-- earlier acts and the first ones of a run's, at least the covered ones, made the found contents
 pub record HaveActedOnce (start : Contents) (earlier : List Act) (covered : ℕ) (acts : List Act)
     (found : Contents) : Type 0 where
   pub count : ℕ
   pub least : covered ≤ count
   pub within : count ≤ length acts
   pub is : found ≡ after_batches start (are_written (earlier ++ take count acts))
+  -- no number of a group acted twice unless the group was cleaned, so a covered one acted once
   pub once : (group : ℕ) → ActedOnce (acted_after group [] (earlier ++ take count acts))
   -- as the next run needs it
   pub may : MayAllAct start (earlier ++ take count acts)
 
--- acts so far, and how many of them an answered sync covers
+-- the acts of a run, and how many of them a successful sync covers
 pub record ActProgress : Type 0 where
   pub acts : List Act
   pub covered : ℕ
 
--- once an operation is answered, at these contents
+-- the acts after an operation at these contents
 abbrev pub acts_after : Contents → ActProgress → Op → Outcome → ActProgress
 acts_after m p op outcome = let acts = p.acts ++ acts_in op (accepted_of m op outcome) in
     record { acts = acts; covered = if is_covering op outcome then length acts else p.covered }
 
 module _ {F H R W : Type 0} {g : Ghosts F H R W} where
-  -- at each moment of an operation, and once it is answered, a crash leaves acts that acted once
+  -- at each moment of an operation, and after it, a crash leaves acts that acted once
   pub record ActsOnce (start : Contents) (earlier : List Act) (p : ActProgress) (op : Op)
       (outcome : Outcome) (old new : Engine F H R W g) : Type 0 where
     pub inside : has_failed old ≡ false → (n : Directory) → IsMomentOf old new n
@@ -48,7 +47,7 @@ module _ {F H R W : Type 0} {g : Ghosts F H R W} where
         IsFound g (λ found. ∥ HaveActedOnce start earlier now.covered now.acts found ∥₁)
         (folders_of old) (directory_of new)
 
-  -- .. at each of a run's
+  -- ActsOnce holds of each operation of a run
   abbrev pub AllActOnce : Contents → List Act → ActProgress → List Op → List Outcome
       → Engine F H R W g → List (Engine F H R W g) → Type 0
   AllActOnce start earlier p [] [] old [] = Unit {0}
@@ -57,8 +56,7 @@ module _ {F H R W : Type 0} {g : Ghosts F H R W} where
       × AllActOnce start earlier (acts_after (contents_of old) p op outcome) ops outcomes new states
   AllActOnce start earlier p _ _ old _ = ⊥
 
-  -- a run that is safe, from an engine whose contents earlier acts made, all of them synced, as
-  -- each opening leaves it
+  -- a run is safe; if earlier acts made the contents before, all of them synced, AllActOnce holds
   pub record AreOnce (ops : List Op) (outcomes : List Outcome) (old new : Engine F H R W g)
       : Type 0 where
     pub safe : AreSafe ops outcomes old new

@@ -1,4 +1,4 @@
--- What a read of a run answers: what the engine's own call says.
+-- The results of reads in a run: what the engine's own calls promise.
 use Rattle.std.specs.Prelude.{◌≡◌, ◌⊎◌, ◌↔◌, ℕ, true, false, List, None, Option, Result, Ok, Err, IfErr, IfOk, Vec}
 use Rattle.std.specs.Option.{option_map}
 use Rattle.std.specs.declared.alloc.Global.{Global}
@@ -17,7 +17,7 @@ use Rattle.raft_script.specs.Entry.{IsTextOf, index_of}
 use Rattle.raft_script.specs.declared.text_entry.TextEntry.{TextEntry}
 
 module _ {F H R W : Type 0} {g : Ghosts F H R W} where
-  -- a get, which takes memory for a value alone
+  -- a get, which needs memory only for a value
   pub record IsGet (group : ℕ) (key : List ℕ) (old new : Engine F H R W g)
       (result : Result (Option (Vec ℕ Global)) Fault) : Type 0 where
     pub same : new ≡ old
@@ -28,7 +28,7 @@ module _ {F H R W : Type 0} {g : Ghosts F H R W} where
     pub memory : has_failed old ≡ false
         → (shown (contents_of old)).value group key ≡ None → result ≡ Ok None
 
-  -- a read of an entry, which takes memory for one that is there alone
+  -- a read of an entry, which needs memory only for one that exists
   pub record IsEntryGet (group index : ℕ) (old new : Engine F H R W g)
       (result : Result (Option TextEntry) Fault) : Type 0 where
     pub unchanged : HasOnlyRead old new
@@ -48,7 +48,7 @@ module _ {F H R W : Type 0} {g : Ghosts F H R W} where
     pub value : has_failed old ≡ false
         → result ≡ first_index_of ((contents_of old).entries group)
 
-  -- .. the last one
+  -- the last index of a group's entries
   pub record IsLastIndex (group : ℕ) (old new : Engine F H R W g) (result : Option ℕ)
       : Type 0 where
     pub same : new ≡ old

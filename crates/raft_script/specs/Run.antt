@@ -1,4 +1,4 @@
--- What operations are answered.
+-- The results of operations.
 use Rattle.std.specs.Prelude.{◌≡◌, ◌⊎◌, ℕ, ◌^◌, ◌≤◌, length, take, Bool, true, false, List, [], ◌∷◌, Option, Some, None, option_map, Result, Ok, Err, MatchResult, IsSome, IsSomeAnd}
 use Rattle.std.specs.List.{Any}
 use Rattle.raft_records.specs.Contents.{Contents, after_batch, first_index_of, last_index_of}
@@ -23,8 +23,7 @@ use Rattle.raft_script.specs.declared.operation.Outcome.{Outcome}
 use Rattle.raft_script.specs.declared.operation.Outcome.TheVariants as reply
 use Rattle.raft_script.specs.declared.operation.Outcome.TheVariants.{Size, Sizes, Done, Value, Count, Index, Dropped, ToCompact}
 
--- the operation doesn't change the engine: a get, an index, the groups, or a write, with numbers or
--- without, or a group of acts without a batch
+-- the operation makes no storage call: it reads from memory, or the acts of a write make no batch
 abbrev pub IsUnasked : Op → Type 0
 IsUnasked (Write acts sync) = batch_of_acts acts.items ≡ None
 IsUnasked (WriteOnce acts pairs sync) = batch_of_acts acts.items ≡ None
@@ -41,34 +40,30 @@ IsUnasked RewriteRewrite = ⊥
 IsUnasked PurgeStale = ⊥
 IsUnasked Purge = ⊥
 
--- the first acts, so many of them, have more bytes of entries than a batch takes
+-- some first acts have more bytes of entries than a batch takes
 abbrev pub IsOversized : List Act → Type 0
 IsOversized acts = (count : ℕ) × (batch : Batch) × (batch_of_acts (take count acts) ≡ Some batch)
     × (2 ^ 32 ≤ length (entry_bytes batch))
 
--- no batch of these acts could be built: one of them can't be done, there was no memory, or they
--- have too many bytes of entries
+-- no batch of these acts could be built: one is refused, memory ran out, or they are too long
 abbrev pub IsUnbuilt : List Act → Fault → Type 0
 IsUnbuilt acts e = (e ≡ fault.Memory) ⊎ ((fault_code e ≡ 1) × (batch_of_acts acts ≡ None))
     ⊎ ((e ≡ fault.Range) × IsOversized acts)
 
--- no batches of a group could be built: there was no memory, or one of them couldn't be
+-- no batches of a group could be built: for memory, or for one of them
 abbrev pub IsUnbuiltGroup : List Part → Fault → Type 0
 IsUnbuiltGroup parts e = (e ≡ fault.Memory) ⊎ Any (λ part. IsUnbuilt part.0.items e) parts
 
--- a write that was answered had a batch that changes no group's number and that the contents take,
--- and is answered with its record's length
+-- a successful write: the contents accept its batch, and the result is the length of its record
 abbrev pub IsWritten : Contents → List Act → ℕ → Type 0
 IsWritten m acts len = (batch : Batch) × (batch_of_acts acts ≡ Some batch)
     × (has_numbers batch ≡ false) × IsValidBatch m batch × (len ≡ record_len batch)
 
--- the batch is out of range; or it could be written, and no number is left
+-- the batch is out of range, or it is writable and no file number is left
 abbrev pub IsOutOfNumbers : Type 0 → Contents → Batch → Type 0
 IsOutOfNumbers none_left m batch = IsOutOfRange m batch ⊎ (IsWritable m batch × none_left)
 
--- a write fails for an act that can't be done, too many bytes of entries, or lack of memory; its
--- batch since it would change a group's number, since the contents don't take it, for its length,
--- for lack of a number, else by storage or for want of space, or by a failed engine
+-- why a write fails: for its acts, its batch, memory, storage, a file number, or a failed engine
 abbrev pub IsWriteRefusal : Type 0 → Contents → List Act → Fault → Type 0
 IsWriteRefusal none_left m acts (fault.InvalidArgument _) = (batch_of_acts acts ≡ None)
     ⊎ IsSomeAnd (batch_of_acts acts) (λ batch. meets_number m batch ≡ true)
@@ -82,34 +77,30 @@ IsWriteRefusal none_left m acts fault.Range =
 IsWriteRefusal none_left m acts fault.Failed = IsSome (batch_of_acts acts)
 IsWriteRefusal none_left m acts _ = ⊥
 
--- a write with numbers that was answered: there are some, each of another group, and none is
--- greater than the one that its group keeps; or each is, and a batch was written, with the numbers
--- behind its items
+-- a successful write with numbers: all old and nothing is written, or all new and a batch is
 abbrev pub IsWrittenOnce : Contents → List Act → List Pair → ℕ → Type 0
 IsWrittenOnce m acts pairs len = (batch : Batch) × (batch_of_acts acts ≡ Some batch)
     × (are_unfit pairs ≡ false) × (((are_old m pairs ≡ true) × (len ≡ 0))
     ⊎ ((are_new m pairs ≡ true) × (has_numbers batch ≡ false) × IsValidBatch m batch
     × (len ≡ record_len (numbered batch pairs))))
 
--- the numbers are greater than those that their groups keep, and P holds of the batch of these acts
+-- all numbers are new, and P holds of the batch of these acts
 abbrev pub IsNew : Contents → List Act → List Pair → (Batch → Type 0) → Type 0
 IsNew m acts pairs P = (are_unfit pairs ≡ false) × (are_new m pairs ≡ true)
     × IsSomeAnd (batch_of_acts acts) P
 
--- none of them is, and there is a batch
+-- all numbers are old, and the acts have a batch
 abbrev pub IsRepeat : Contents → List Act → List Pair → Type 0
 IsRepeat m acts pairs = (are_unfit pairs ≡ false) × (are_old m pairs ≡ true)
     × IsSome (batch_of_acts acts)
 
--- some of them are, and others aren't
+-- some numbers are new and some are old, and the acts have a batch
 abbrev pub IsStale : Contents → List Act → List Pair → Type 0
 IsStale m acts pairs = (are_unfit pairs ≡ false) × (are_old m pairs ≡ false)
     × (are_new m pairs ≡ false) × IsSome (batch_of_acts acts)
 
--- it fails as a write does, a batch that changes a group's number or doesn't fit only where the
--- numbers are new, and its record is longer by them; for numbers of which there are none, or two
--- of a group; for numbers of which some are new; and where none is, by storage in a sync that was
--- asked for
+-- why a write with numbers fails: as a write does if all are new; for unfit numbers; if only some
+-- are new; and if none is, in a requested sync
 abbrev pub IsOnceRefusal : Type 0 → Contents → List Act → List Pair → Bool → Fault → Type 0
 IsOnceRefusal none_left m acts pairs sync (fault.InvalidArgument _) =
     (batch_of_acts acts ≡ None) ⊎ (are_unfit pairs ≡ true)
@@ -128,8 +119,7 @@ IsOnceRefusal none_left m acts pairs sync fault.Range = IsOversized acts
 IsOnceRefusal none_left m acts pairs sync fault.Failed = IsSome (batch_of_acts acts)
 IsOnceRefusal none_left m acts pairs sync _ = ⊥
 
--- a batch of a group isn't accepted: since it would change a group's number, since the contents
--- don't take it, for its length, for lack of a number, else by storage or for lack of memory
+-- why a batch of a group is refused: for an item, its length, a file number, storage or memory
 abbrev pub IsBatchRefusal : Type 0 → Contents → Batch → Fault → Type 0
 IsBatchRefusal none_left m batch (fault.InvalidArgument _) = meets_number m batch ≡ true
 IsBatchRefusal none_left m batch fault.Gap = batch_refusal m batch ≡ Some fault.Gap
@@ -139,7 +129,7 @@ IsBatchRefusal none_left m batch fault.TryAgain = IsWritable m batch
 IsBatchRefusal none_left m batch fault.Memory = IsWritable m batch
 IsBatchRefusal none_left m batch _ = ⊥
 
--- each batch is answered at the contents after those that were accepted before it
+-- each batch is accepted or refused at the contents after those that were accepted before it
 abbrev pub AreBatchAnswers : Type 0 → Contents → List Batch → List (Result ℕ Fault) → Type 0
 AreBatchAnswers none_left m [] [] = Unit {0}
 AreBatchAnswers none_left m (batch ∷ batches) (Ok len ∷ answers) =
@@ -149,13 +139,12 @@ AreBatchAnswers none_left m (batch ∷ batches) (Err e ∷ answers) =
     IsBatchRefusal none_left m batch e × AreBatchAnswers none_left m batches answers
 AreBatchAnswers none_left m _ _ = ⊥
 
--- a group that was answered had a batch of each part
+-- a successful group: each part has a batch, and AreBatchAnswers holds of them
 abbrev pub IsWrittenGroup : Type 0 → Contents → List Part → List (Result ℕ Fault) → Type 0
 IsWrittenGroup none_left m parts answers =
     IsSomeAnd (batches_of_parts parts) (λ batches. AreBatchAnswers none_left m batches answers)
 
--- a group fails for an act that can't be done, too many bytes of entries, lack of memory, by
--- storage, or by a failed engine
+-- why a group fails: for an act, too many bytes of entries, memory, storage, or a failed engine
 abbrev pub IsGroupRefusal : List Part → Fault → Type 0
 IsGroupRefusal parts (fault.InvalidArgument _) = batches_of_parts parts ≡ None
 IsGroupRefusal parts (fault.Io kind path) = IsSome (batches_of_parts parts)
@@ -164,42 +153,40 @@ IsGroupRefusal parts fault.Range = Any (λ part. IsOversized part.0.items) parts
 IsGroupRefusal parts fault.Failed = IsSome (batches_of_parts parts)
 IsGroupRefusal parts _ = ⊥
 
--- an engine fails a call that has no batch: by storage, for lack of memory, or since it had failed
+-- why a call without a batch fails: by storage, for memory, or since the engine had failed
 abbrev pub IsEngineRefusal : Fault → Type 0
 IsEngineRefusal (fault.Io kind path) = Unit {0}
 IsEngineRefusal fault.Memory = Unit {0}
 IsEngineRefusal fault.Failed = Unit {0}
 IsEngineRefusal _ = ⊥
 
--- .. a compaction also since no number is left for a next log file, or for want of space
+-- IsEngineRefusal, no number left for a next log file, or no space
 abbrev pub IsCompactRefusal : Type 0 → Fault → Type 0
 IsCompactRefusal none_left fault.Range = none_left
 IsCompactRefusal none_left fault.TryAgain = Unit {0}
 IsCompactRefusal none_left e = IsEngineRefusal e
 
--- .. a purge for want of space, for lack of a number of either queue or of an atomic group, or
--- since a key of the engine's own has a value
+-- why a purge fails: IsCompactRefusal, no id left, or one of the engine's own keys has a value
 abbrev pub IsRefusedPurge : Contents → Fault → Type 0
 IsRefusedPurge m (fault.InvalidArgument text) = IsUnfit m (fault.InvalidArgument text)
 IsRefusedPurge m e = IsCompactRefusal (Unit {0}) e
 
--- a purge is answered so: how many files went, and which groups are to be compacted, is said of the
--- engine's queues
+-- the result of a purge; an `Ok` is explained by the engine's queues, not here
 abbrev pub IsPurgeAnswer : {T : Type 0} → Contents → Result T Fault → Type 0
 IsPurgeAnswer m answer = MatchResult answer (λ _. Unit {0}) (IsRefusedPurge m)
 
+-- why a get fails: for memory, or since the engine had failed
 abbrev pub IsGetRefusal : Fault → Type 0
 IsGetRefusal fault.Memory = Unit {0}
 IsGetRefusal fault.Failed = Unit {0}
 IsGetRefusal _ = ⊥
 
--- an entry isn't read as one of text, or the engine fails the call
+-- an entry can't be read as one of text, or IsEngineRefusal
 abbrev pub IsTextRefusal : ℕ → Option (List ℕ) → Fault → Type 0
 IsTextRefusal index bytes e = IsEntryRefusalAt IsTextOf index_of index bytes e ⊎ IsEngineRefusal e
 
--- an operation is answered so, or fails so, by an engine that had failed or not, at these contents
--- and where these groups are known, and a batch that could be written is out of range only if no
--- number is left for a next log file; of an engine that had failed nothing is said of indexes
+-- the result of an operation at these contents and known groups; `failed`: the engine had failed,
+-- and then nothing is said of indexes; `none_left`: no number is left for a next log file
 abbrev pub IsAnswer : Type 0 → Bool → Contents → (ℕ → Bool) → Op → Outcome → Type 0
 IsAnswer none_left failed m known (Write acts sync) (Size answer) =
     MatchResult answer (IsWritten m acts.items) (IsWriteRefusal none_left m acts.items)

@@ -43,14 +43,14 @@ use Rattle.raft_script.specs.declared.operation.Op.{Op}
 use Rattle.raft_script.specs.declared.operation.Outcome.{Outcome}
 use Rattle.raft_script.specs.declared.operation.Trial.{Trial}
 
--- what was answered in a run, where the engine failed, and why it wasn't opened
+-- what a run showed: its outcomes, where the engine failed, and why it wasn't opened
 pub record Ran : Type 0 where
   pub outcomes : List Outcome
   pub failed_at : Option ℕ
   pub refused : Option Fault
 
 module _ {F H R W : Type 0} (g : Ghosts F H R W) where
-  -- an engine that was opened with these contents and groups was asked, and handed its files back
+  -- an engine opened with these contents and groups did the operations, and returned its files
   pub record AreAnswered (config : Config) (m : Contents) (known : ℕ → Bool) (ops : List Op)
       (ran : Ran) (old new : F) : Type 0 where
     pub opened : ran.refused ≡ None
@@ -65,10 +65,10 @@ module _ {F H R W : Type 0} (g : Ghosts F H R W) where
     pub numbers : HaveActed m m [] ops ran.outcomes
     pub files : g.directory new ≡ directory_of ended
     pub moments : g.moments new ≡ moments_of ended
-    -- storage counted at least as many failed calls as answered `Io`
+    -- storage counted at least as many failed calls as outcomes that say `Io`
     pub counted : RoseBy (io_count ran.outcomes) no_refusals (g.refusals_of new)
 
-  -- the opening failed for such a cause, and no operation was done; the files keep what they kept
+  -- the opening failed for such a cause, no operation was done, and the files keep their contents
   pub record AreNotAsked (config : Config) (m : Contents) (ran : Ran) (old new : F) : Type 0 where
     pub fault : Fault
     pub refused : ran.refused ≡ Some fault
@@ -79,43 +79,40 @@ module _ {F H R W : Type 0} (g : Ghosts F H R W) where
     pub files_keep : RecoversContents (folders_in config) m [] (g.directory new)
     pub back : ComesBack g (IsAllowedFrom 0 m []) (folders_in config) (g.directory new)
 
-  -- operations over folders that hold these contents and groups, from an opening on
+  -- operations over folders with these contents and groups, from an opening on
   pub record RunsOver (config : Config) (m : Contents) (known : ℕ → Bool) (ops : List Op)
       (ran : Ran) (old new : F) : Type 0 where
     pub answered : AreAnswered config m known ops ran old new ⊎ AreNotAsked config m ran old new
-    -- no folder's place is taken, and no number of a kept log file stands in both
+    -- the folders are clear, and no number of a kept log file is in both
     pub clear : AreClear (folders_in config) (g.directory new)
     pub single : AreSingleIn (folders_in config) (g.directory new)
 
--- no folder has the path of a log file or of a reserved one, as one can have that stands in the
--- other
+-- no folder has the path of a log file or of a reserved one, as one inside the other can have
 abbrev pub HaveNoLogPath : Folders → Type 0
 HaveNoLogPath folders = (folder : Path) → Contains (all_of folders) folder
     → IsLogPath folders folder ⊎ IsReservedPath folders folder → ⊥
 
--- from this stop on each call that may change these files fails; no other failure is armed in them,
--- and none was counted
+-- each changing call from this stop on fails; no other failure is set, and none was counted
 abbrev pub FailsAtStop : Option ℕ → MemoryFileSystem → Type 0
 FailsAtStop stop files = (stop_of files ≡ stop) × (armed_of files ≡ [])
     × (memory_refusals files ≡ no_refusals)
 
--- operations over files in memory that were empty, with this stop for the calls from the first
--- opening on: the files once they are done
+-- operations over new files in memory, with this stop for their calls; `last` is what they leave
 pub record RunsFromEmpty {H R W : Type 0} (g : Ghosts MemoryFileSystem H R W) (config : Config)
     (ops : List Op) (stop : Option ℕ) (ran : Ran) (last : MemoryFileSystem) : Type 0 where
   pub first : MemoryFileSystem
   pub none : memory_directory first ≡ no_files
   pub fails : FailsAtStop stop first
-  -- the moments there were by then follow those of the first files
+  -- the moments until then follow those of the first files
   pub added : List Directory
   pub later : memory_moments last ≡ added ++ memory_moments first
-  -- where the opening succeeded no folder has such a path
+  -- if the opening succeeded, no folder has such a path
   pub free : ran.refused ≡ None → HaveNoLogPath (folders_in config)
-  -- said of folders of which none has such a path
+  -- this is said only if no folder has such a path
   pub runs : HaveNoLogPath (folders_in config)
       → RunsOver g config no_contents (known_in []) ops ran first last
 
--- they may leave files of which storage may not leave what the choices say
+-- the operations may leave files of which storage may not leave what the choices say
 pub record AreNotAllowed {H R W : Type 0} (g : Ghosts MemoryFileSystem H R W) (config : Config)
     (ops : List Op) (stop : Option ℕ) (choices : List Choice) : Type 0 where
   pub ran : Ran
@@ -123,7 +120,7 @@ pub record AreNotAllowed {H R W : Type 0} (g : Ghosts MemoryFileSystem H R W) (c
   pub runs : RunsFromEmpty g config ops stop ran last
   pub refused : let files = memory_directory last in Leaves files (left_by choices files) → ⊥
 
--- an opening fails by storage, for lack of memory, or for the damage of the log in the folders
+-- an opening fails by storage, for lack of memory, or for the damage of the log
 abbrev pub IsLogRefusal : RecoveryMode → Folders → Directory → Fault → Type 0
 IsLogRefusal mode folders files e = IsStorageOrMemory e ⊎ HaveDamageIn mode folders files e
 
@@ -132,33 +129,31 @@ abbrev pub LeavesSound : Folders → Directory → Type 0
 LeavesSound folders files = (d : CrashImage) → Leaves files d → AreDetectableIn folders files d
     → AreSoundIn folders files d
 
--- where only writes failed on the log of consistent files, and nothing decodes that a last file
--- held when it was renamed, choices that leave each file whole, as it is now or as it was synced,
--- leave detectable damage of it
+-- if only writes failed on the log of consistent files, and nothing decodes that a last file held
+-- when it was renamed, choices that leave each file whole leave detectable damage
 abbrev pub LeavesDetectable : Folders → Directory → Type 0
 LeavesDetectable folders files = HaveSimplePastIn folders files
     → HaveNoStaleRecordIn folders files → AreConsistent files
     → (choices : List Choice) → AreWhole choices
     → ∥ AreDetectableIn folders files (left_by choices files) ∥₁
 
--- the last log file of each queue was never renamed, each of its calls brought no record but the
--- one that it was to write, and the choices leave what is read as it was at a moment since its
--- last sync
+-- the last file of each queue was never renamed, each of its calls added only its own record, and
+-- the choices leave it readable as at a moment since its last sync
 abbrev pub AreReadAsBefore : Folders → Directory → List Choice → Type 0
 AreReadAsBefore folders files choices = (queue : LogQueue) (f : ℕ × Path) (file : File)
     → last_kept (all_of folders) queue files ≡ Some f → file_at files f.1 ≡ Some file
     → let id = in_queue queue f.0 in (file.renamed_after ≡ None) × EachAddsOnlyItsRecord id file
     × IsReadAsBefore id file (left_by choices files f.1)
 
--- an opening of files, and a read of all that it found, left these: at each moment of it the
--- folders kept what they had kept, and it answers `Io` only where storage failed a call of it
+-- an opening of files and a read of all it found: at each moment the folders keep their contents
 pub record Reopens {F : Type 0} (directory : F → Directory) (moments : F → List Directory)
     (refusals_of : F → Refusals) (folders : Folders) (found left : F) (opened : Result Image Fault)
     : Type 0 where
   pub any_moment : MovesBy directory moments refusals_of (StillRecovers folders) found left
+  -- it fails with `Io` only if storage counted a failed call
   pub counted : is_io opened ≡ true → RoseBy 1 (refusals_of found) (refusals_of left)
 
--- an opening of these files was answered, and refused for the same cause
+-- the result of an opening of these files; a refusal has the same cause
 pub record IsOpenedAs {F H R W : Type 0} (g : Ghosts F H R W) (config : Config) (files : F)
     (opened : Result Image Fault) : Type 0 where
   pub answer : Result (Engine F H R W g) (Refused F)
@@ -170,44 +165,42 @@ abbrev pub ran_in : Trial → Ran
 ran_in t =
     record { outcomes = t.outcomes.items; failed_at = t.failed_at; refused = t.refused }
 
--- what these choices leave of the files is detectable damage of the log
+-- what these choices leave of the files is a log with detectable damage
 abbrev pub AreDetectablyLeft : Folders → MemoryFileSystem → List Choice → Type 0
 AreDetectablyLeft folders last choices = let files = memory_directory last in
     AreDetectableIn folders files (left_by choices files)
 
--- operations over files that were empty, then a crash by these choices, which left these files
+-- operations over new files, and then a crash by these choices, which left these files
 pub record IsCrashOf {H R W : Type 0} (g : Ghosts MemoryFileSystem H R W) (config : Config)
     (ops : List Op) (stop : Option ℕ) (choices : List Choice) (ran : Ran) (left : MemoryFileSystem)
     : Type 0 where
   pub last : MemoryFileSystem
   pub runs : RunsFromEmpty g config ops stop ran last
-  -- storage may leave of the files what the choices say, and so they stand after the crash, with no
-  -- stop
+  -- storage may leave what the choices say, and so the files are after the crash, with no stop
   pub leaves : let files = memory_directory last in Leaves files (left_by choices files)
   pub restarted : let files = memory_directory last in
       IsRestarted files (left_by choices files) (memory_directory left)
   pub fails : FailsAtStop None left
-  -- where an engine was opened and none failed, choices that leave each file whole, as it is now
-  -- or as it was synced, leave detectable damage where nothing decodes that a last file held when
-  -- it was renamed, if it was
+  -- if an engine was opened and didn't fail, choices that leave each file whole leave detectable
+  -- damage, unless something decodes that a last file held when it was renamed
   pub detectable : ran.refused ≡ None → ran.failed_at ≡ None → AreWhole choices
       → HaveNoStaleRecordIn (folders_in config) (memory_directory last)
       → ∥ AreDetectablyLeft (folders_in config) last choices ∥₁
-  -- .. whatever failed, and also of files that are left torn, where they are read as before
+  -- torn files too are left with detectable damage, whatever failed, if they are read as before
   pub torn : NameNoBytes choices
       → AreReadAsBefore (folders_in config) (memory_directory last) choices
       → AreDetectablyLeft (folders_in config) last choices
-  -- where it is detectable, a tolerant opening takes them
+  -- if the damage is detectable, each tolerant opening accepts the files
   pub opens : HaveNoLogPath (folders_in config) → AreDetectablyLeft (folders_in config) last choices
       → (mode : RecoveryMode) → (mode ≡ AbsoluteConsistency → ⊥)
       → AreOpenableIn mode (folders_in config) (memory_directory left)
-  -- .. and a further crash leaves what is found
+  -- if the damage is detectable, a further crash leaves what is found
   pub kept : HaveNoLogPath (folders_in config) → AreDetectablyLeft (folders_in config) last choices
       → let found = memory_directory left in
       RecoversContents (folders_in config) (contents_at (folders_in config) found) [] found
 
--- an opening of these files with a copy of the settings, which was given up with those; P: the
--- damage of the last crash is detectable, Q: of those before it
+-- an opening of these files with a copy of the settings; P: the damage of the last crash is
+-- detectable; Q: that of the crashes before is
 pub record IsOpeningOf {H R W : Type 0} (g : Ghosts MemoryFileSystem H R W) (P Q : Type 0)
     (config : Config) (files last : MemoryFileSystem) (opened : Result Image Fault) : Type 0 where
   pub copy : Config
@@ -215,20 +208,18 @@ pub record IsOpeningOf {H R W : Type 0} (g : Ghosts MemoryFileSystem H R W) (P Q
   pub opens : IsOpenedAs g copy files opened
   pub reopened : Reopens memory_directory memory_moments memory_refusals (folders_in config) files
       last opened
-  -- it found what they hold, and shows it without the groups' numbers
+  -- it found what the files hold, and shows it without the groups' numbers
   pub found : IfOk opened (λ image. IsImageOf image.groups.items
       (shown (contents_at (folders_in config) (memory_directory files))))
-  -- where no folder has the path of a log file, a tolerant one doesn't fail for detectable damage
+  -- a tolerant opening doesn't fail for detectable damage, if no folder has the path of a log file
   pub refused : HaveNoLogPath (folders_in config) → Q → P
       → (config.recovery_mode ≡ AbsoluteConsistency → ⊥) → contradiction config ≡ None
       → IfErr opened IsStorageOrMemory
-  -- .. and in any mode and of any damage it fails where settings contradict one another, by
-  -- storage, for lack of memory, or for what is left of the log
+  -- any opening fails only for contradicting settings, by storage, for memory, or for what is left
   pub cause : HaveNoLogPath (folders_in config) → Q → IfErr opened (λ e. IsContradiction config e
       ⊎ IsLogRefusal config.recovery_mode (folders_in config) (memory_directory files) e)
 
--- operations over files that were empty, then a crash by these choices, then an opening with the
--- same settings
+-- operations over new files, a crash by these choices, and an opening with the same settings
 pub record IsTrialOf {H R W : Type 0} (g : Ghosts MemoryFileSystem H R W) (config : Config)
     (ops : List Op) (stop : Option ℕ) (choices : List Choice) (t : Trial) : Type 0 where
   pub again : MemoryFileSystem
@@ -238,8 +229,8 @@ pub record IsTrialOf {H R W : Type 0} (g : Ghosts MemoryFileSystem H R W) (confi
   pub opening : IsOpeningOf g (AreDetectablyLeft (folders_in config) crash.last choices) (Unit {0})
       config again last t.opened
 
--- files after a second crash, which came in an opening of those that a first one left; of that
--- opening the calls that may change files fail from a stop on
+-- a second crash inside an opening of what the first one left, whose changing calls fail from a
+-- stop on, left these files
 pub record IsSecondCrash {H R W : Type 0} (g : Ghosts MemoryFileSystem H R W) (config : Config)
     (again : Option ℕ) (more : List Choice) (Q : Type 0) (second : Option (Result Image Fault))
     (first left : MemoryFileSystem) : Type 0 where
@@ -254,14 +245,14 @@ pub record IsSecondCrash {H R W : Type 0} (g : Ghosts MemoryFileSystem H R W) (c
   pub restarted : let files = memory_directory last in
       IsRestarted files (left_by more files) (memory_directory left)
   pub fresh : FailsAtStop None left
-  -- where the damage of the first crash is detectable, and that of the second, nothing of what the
-  -- first left is lost or changed, whatever moment of the opening the second came in
+  -- if the damage of both crashes is detectable, nothing of what the first left is lost or
+  -- changed, at whatever moment of the opening the second came
   pub same : HaveNoLogPath (folders_in config) → Q
       → AreDetectablyLeft (folders_in config) last more
       → contents_at (folders_in config) (memory_directory left)
       ≡ contents_at (folders_in config) (memory_directory first)
 
--- .. then a second crash by more choices in an opening with a stop, and an opening after it
+-- a trial with a second crash, by more choices, inside its opening, and an opening after that
 pub record IsTrialTwiceOf {H R W : Type 0} (g : Ghosts MemoryFileSystem H R W) (config : Config)
     (ops : List Op) (stop : Option ℕ) (choices : List Choice) (again : Option ℕ)
     (more : List Choice) (t : Trial) : Type 0 where
@@ -274,8 +265,7 @@ pub record IsTrialTwiceOf {H R W : Type 0} (g : Ghosts MemoryFileSystem H R W) (
   pub opening : IsOpeningOf g (AreDetectablyLeft (folders_in config) second.last more)
       (AreDetectablyLeft (folders_in config) crash.last choices) config left last t.opened
 
--- files that a second crash came over may be such that storage may not leave of them what the
--- choices say
+-- the second crash may meet files of which storage may not leave what its choices say
 pub record AreNotAllowedAgain {H R W : Type 0} (g : Ghosts MemoryFileSystem H R W) (config : Config)
     (ops : List Op) (stop : Option ℕ) (choices : List Choice) (again : Option ℕ)
     (more : List Choice) : Type 0 where

@@ -135,7 +135,7 @@ pub(crate) fn crashes_come_back<F: FileSystem>()
     crash_leaves_a_prefix();
 }
 
-// A queue of an engine that stands has the last number only where a log file has.
+// A queue of a usable engine has the last number only if a log file has it.
 fn last_number_stands<F: FileSystem>(engine: &Engine<F>)
     ensures { has_failed engine.now ≡ false → HasLastNumber (queue_of engine.now)
         → IsOutOfNumbersIn (folders_of engine.now) (directory_of engine.now) }

@@ -89,7 +89,7 @@ fn parse_text(bytes: &[u8]) -> Option<(u64, &[u8])>
     Some((parse_index(digits)?, word))
 }
 
-// Where the first colon stands, or the end.
+// The place of the first colon, or the end.
 fn index_len(bytes: &[u8]) -> usize
     ensures value { result ≡ position_or_len (λ byte. byte == 58) bytes.now }
     ensures within { result ≤ length bytes.now }

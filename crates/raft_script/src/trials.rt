@@ -146,7 +146,7 @@ fn new_files(alloc: Global, stop: Option<u64>) -> MemoryFileSystem
     stopped(MemoryFileSystem::new(alloc), stop)
 }
 
-// The files with a stop, where one is given.
+// The files with a stop, if one is given.
 fn stopped(mut files: MemoryFileSystem, stop: Option<u64>) -> MemoryFileSystem
     ensures unchanged { memory_directory result ≡ memory_directory files }
     ensures any_moment { memory_moments result ≡ memory_moments files }

@@ -1,4 +1,4 @@
--- What `Engine` says of a read that a shared engine makes.
+-- What `Engine` promises of a read that a shared engine makes.
 use Rattle.std.specs.Prelude.{◌≡◌, ◌⊎◌, ◌↔◌, ℕ, true, false, List, Option, None, Result, Ok, Err, IfOk, IfErr, Vec, option_map}
 use Rattle.std.specs.declared.alloc.Global.{Global}
 use Rattle.raft_base.specs.declared.errors.Fault.{Fault}

@@ -12,8 +12,7 @@ seats_with number [] = 0
 seats_with number (seat ∷ seats) =
     if seat.number == number then suc (seats_with number seats) else seats_with number seats
 
--- each seat has the receipts of its calls, in order, each at its number; and each call is of just one
--- seat
+-- each seat has the receipts of its calls, in order, and each call is of exactly one seat
 pub record AreSettled (seats : List Seat) (events : List Event) : Type 0 where
   pub receipts : All (λ (seat : Seat). receipts_of seat ≡ calls_of seat.number 0 events) seats
   pub owned : All (λ (event : Event). seats_with event.seat seats ≡ 1) events

@@ -20,11 +20,12 @@ use Rattle.raft_shared.specs.declared.call.Receipt.{Receipt}
 use Rattle.raft_shared.specs.declared.seat.Seat.{Seat}
 use Rattle.raft_shared.specs.declared.shared.Shared.{Shared}
 
--- the receipts that a seat was given
+-- the receipts of a seat
 abbrev pub receipts_of : Seat → List Told
 receipts_of seat = map told_by seat.receipts.items
 
 module _ {F H R W : Type 0} {g : Ghosts F H R W} where
+  -- the engine that is shared
   abbrev pub engine_of : Shared F H R W g → Engine F H R W g
   engine_of shared = shared.engine
 
@@ -32,31 +33,31 @@ module _ {F H R W : Type 0} {g : Ghosts F H R W} where
   abbrev pub history_of : Shared F H R W g → List Event
   history_of shared = map event_of shared.trail.items
 
-  -- how many calls it records
+  -- how many calls it records at most
   abbrev pub limit_of : Shared F H R W g → ℕ
   limit_of shared = shared.limit
 
-  -- how many seats it gave
+  -- how many seats it has given out
   abbrev pub seats_of : Shared F H R W g → ℕ
   seats_of shared = shared.seats
 
-  -- what the engine held at `new`
+  -- the contents that the engine held at `new`
   abbrev pub base_of : Shared F H R W g → Contents
   base_of shared = contents_in shared.begun.items
 
-  -- .. whether it had failed
+  -- the engine had failed at `new`
   abbrev pub had_failed : Shared F H R W g → Bool
   had_failed shared = failed_in shared.begun.items
 
-  -- .. and how many calls of its files had failed
+  -- how many calls of the engine's files had failed at `new`
   abbrev pub refusals_at_new : Shared F H R W g → Refusals
   refusals_at_new shared = refusals_in shared.begun.items
 
-  -- whether numbers of log files had ended when a write last left the engine standing, or at `new`
+  -- no file number was left when a write last left a usable engine, or at `new`
   abbrev pub had_ended : Shared F H R W g → Bool
   had_ended shared = lacks_numbers_in shared.written.items
 
-  -- what it was at `new`, its limit and its seats are as before
+  -- the state at `new`, the limit and the number of seats are as before
   pub record IsSameShared (old new : Shared F H R W g) : Type 0 where
     pub base : base_of new ≡ base_of old
     pub failed : had_failed new ≡ had_failed old
@@ -64,7 +65,7 @@ module _ {F H R W : Type 0} {g : Ghosts F H R W} where
     pub limit : limit_of new ≡ limit_of old
     pub seats : seats_of new ≡ seats_of old
 
-  -- all but the number of its seats is as before
+  -- all except the number of its seats is as before
   pub record IsButSeats (old new : Shared F H R W g) : Type 0 where
     pub engine : engine_of new ≡ engine_of old
     pub history : history_of new ≡ history_of old
@@ -83,7 +84,7 @@ module _ {F H R W : Type 0} {g : Ghosts F H R W} where
     pub number : seat'.number ≡ seat.number
     pub receipts : receipts_of seat' ≡ receipts_of seat
 
-  -- just this call was recorded, as the seat's, and the seat was given just its receipt
+  -- exactly this call was recorded as the seat's, and the seat got exactly its receipt
   pub record HasRecorded (asked : Asked) (answer : Answer) (old new : Shared F H R W g)
       (seat seat' : Seat) (receipt : Receipt) : Type 0 where
     pub same : IsSameShared old new
@@ -94,7 +95,7 @@ module _ {F H R W : Type 0} {g : Ghosts F H R W} where
     pub receipt_is : told_by receipt
         ≡ record { number = length (history_of old); asked = asked; answer = answer }
 
-  -- the engine wrote, answered so, and the call was recorded
+  -- the engine was asked to write, and the call was recorded with the result
   pub record RecordsWrite (items rest : Batch) (sync : Bool) (old new : Shared F H R W g)
       (seat seat' : Seat) (receipt : Receipt) : Type 0 where
     pub result : Result ℕ Fault
@@ -104,7 +105,7 @@ module _ {F H R W : Type 0} {g : Ghosts F H R W} where
     pub recorded : HasRecorded (Write items sync) (Size (answer_by (λ n. n) result)) old new seat
         seat' receipt
 
-  -- .. wrote with numbers
+  -- the engine was asked to write with numbers, and the call was recorded with the result
   pub record RecordsWriteOnce (items rest : Batch) (pairs : List Pair) (sync : Bool)
       (old new : Shared F H R W g) (seat seat' : Seat) (receipt : Receipt) : Type 0 where
     pub result : Result ℕ Fault
@@ -114,7 +115,7 @@ module _ {F H R W : Type 0} {g : Ghosts F H R W} where
     pub recorded : HasRecorded (WriteOnce items pairs sync) (Size (answer_by (λ n. n) result)) old
         new seat seat' receipt
 
-  -- .. synced
+  -- the engine was asked to sync, and the call was recorded with the result
   pub record RecordsSync (old new : Shared F H R W g) (seat seat' : Seat) (receipt : Receipt)
       : Type 0 where
     pub result : Result (Unit {0}) Fault
@@ -122,7 +123,7 @@ module _ {F H R W : Type 0} {g : Ghosts F H R W} where
     pub ended : had_ended new ≡ had_ended old
     pub recorded : HasRecorded Sync (Done (answer_by (λ _. tt) result)) old new seat seat' receipt
 
-  -- .. purged, and asked for the compaction of these groups
+  -- the engine was asked to purge; these groups are to be compacted, none after `Err`
   pub record RecordsPurge (barrier : ℕ) (old new : Shared F H R W g) (seat seat' : Seat)
       (asked : List ℕ) (receipt : Receipt) : Type 0 where
     pub result : Result (Vec ℕ Global) Fault
@@ -134,7 +135,7 @@ module _ {F H R W : Type 0} {g : Ghosts F H R W} where
     pub recorded : HasRecorded (Purge barrier) (Done (answer_by (λ _. tt) result)) old new seat
         seat' receipt
 
-  -- .. looked a key up
+  -- the engine looked a key up, and the call was recorded with the result
   pub record RecordsGet (group : ℕ) (key : List ℕ) (old new : Shared F H R W g)
       (seat seat' : Seat) (receipt : Receipt) : Type 0 where
     pub result : Result (Option (Vec ℕ Global)) Fault
@@ -144,7 +145,7 @@ module _ {F H R W : Type 0} {g : Ghosts F H R W} where
     pub recorded : HasRecorded (Get group key) (Value (answer_by (option_map (λ v. v.items)) result))
         old new seat seat' receipt
 
-  -- .. told an index, where it hasn't failed this one
+  -- the engine returned an index, this one unless it had failed, and the call was recorded
   pub record RecordsIndex (asked : Asked) (is : Option ℕ) (old new : Shared F H R W g)
       (seat seat' : Seat) (receipt : Receipt) : Type 0 where
     pub index : Option ℕ

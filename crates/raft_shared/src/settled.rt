@@ -120,7 +120,7 @@ fn is_same_value(a: &Option<SharedBytes>, b: &Option<SharedBytes>) -> bool
     }
 }
 
-// Whether faults are the same, but for the text of an argument that was refused.
+// Whether faults are the same, except for the text of a refused argument.
 fn is_same_fault(a: &Fault, b: &Fault) -> bool
     ensures value { IsTrue result ↔ (reason_of a.now ≡ reason_of b.now) }
 {

@@ -1,11 +1,11 @@
--- The answer of a ticket.
+-- The result of a ticket.
 use Rattle.std.specs.Prelude.{◌≡◌, slice_get}
 use mathlib.Core.List.{IsPrefix}
 use Rattle.raft_tickets.specs.declared.book.Naming.{Ghosts}
 use Rattle.raft_tickets.specs.declared.ticket.Ticket.{Ticket}
 use Rattle.raft_tickets.specs.declared.ticket.Durable.{Durable}
 
--- the witness is of the ticket's batch, at its place of the history
+-- the witness is of the ticket's batch, at its place in the history
 pub record Answers {J : Type 0} {n : Ghosts J} (ticket : Ticket J n) (durable : Durable J n)
     : Type 0 where
   pub number : durable.number ≡ ticket.number

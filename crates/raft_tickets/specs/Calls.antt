@@ -17,73 +17,75 @@ event_by seat receipt = record {
   answer = (told_by receipt).answer;
 }
 
--- the answer of a sync that was done
+-- the result of a sync that returned `Ok`
 abbrev pub is_done : Answer → Bool
 is_done (Done (Ok done)) = true
 is_done answer = false
 
--- a write without a sync that was accepted
+-- a write without a sync was accepted
 abbrev pub is_accepted_write : Asked → Answer → Bool
 is_accepted_write (Write batch false) (Size (Ok size)) = true
 is_accepted_write asked answer = false
 
--- a sync that was done
+-- a sync returned `Ok`
 abbrev pub is_answered_sync : Asked → Answer → Bool
 is_answered_sync Sync answer = is_done answer
 is_answered_sync asked answer = false
 
+-- there is a call, and it is an accepted write
 abbrev pub is_write : Option Event → Bool
 is_write (Some event) = is_accepted_write event.asked event.answer
 is_write None = false
 
+-- there is a call, and it is a sync that returned `Ok`
 abbrev pub is_sync : Option Event → Bool
 is_sync (Some event) = is_answered_sync event.asked event.answer
 is_sync None = false
 
--- such a write stands at this place
+-- an accepted write is at this place
 abbrev pub is_write_at : ℕ → List Event → Bool
 is_write_at number events = is_write (slice_get events number)
 
--- .. such a sync
+-- a sync that returned `Ok` is at this place
 abbrev pub is_sync_at : ℕ → List Event → Bool
 is_sync_at number events = is_sync (slice_get events number)
 
--- the batch of this seat stands at this place, accepted with this length
+-- the write of this seat's batch is at this place, accepted with this length
 abbrev pub IsWrittenAt : ℕ → ℕ → Batch → ℕ → List Event → Type 0
 IsWrittenAt number seat batch size events = slice_get events number
     ≡ Some (record { seat = seat; asked = Write batch false; answer = Size (Ok size) })
 
--- the seat was given one receipt more: of a call at this place of the history that was answered so
+-- the seat got one receipt: of this call, at this place of the history, with this result
 abbrev pub IsToldAt : ℕ → Asked → Answer → Seat → Seat → Type 0
 IsToldAt number asked answer old new = receipts_of new
     ≡ receipts_of old ++ record { number = number; asked = asked; answer = answer } ∷ []
 
--- .. at some place
+-- the seat got one receipt: of this call, with this result
 abbrev pub IsTold : Asked → Answer → Seat → Seat → Type 0
 IsTold asked answer old new = (number : ℕ) × IsToldAt number asked answer old new
 
--- the seat was told nothing
+-- the seat got no receipt
 abbrev pub IsToldNothing : Seat → Seat → Type 0
 IsToldNothing old new = receipts_of new ≡ receipts_of old
 
--- the engine wasn't asked, for want of room in the history or of memory
+-- the call didn't reach the engine: the history is full, or memory ran out
 abbrev pub IsUnasked : Seat → Seat → Fault → Type 0
 IsUnasked old new e = ((e ≡ fault.TrailFull) ⊎ (e ≡ fault.Memory)) × IsToldNothing old new
 
--- the engine answered, and the book has other calls there
+-- the call reached the engine, and the book has other calls there
 abbrev pub IsAstray : Asked → Seat → Seat → Fault → Type 0
 IsAstray asked old new e = (e ≡ fault.Layer) × ((said : Answer) × IsTold asked said old new)
 
--- the engine wasn't asked; or it answered so, as the seat was told; or the book has other calls
+-- the call didn't reach the engine, or has this result and a receipt, or the book has other calls
 abbrev pub FailsAs : Asked → Answer → Seat → Seat → Fault → Type 0
 FailsAs asked answer old new e = IsUnasked old new e ⊎ IsTold asked answer old new
     ⊎ IsAstray asked old new e
 
--- the seat was told of the sync that was done, or another seat was
+-- the seat got the receipt of the successful sync, or another seat did
 abbrev pub MayBeToldSync : Seat → Seat → Type 0
 MayBeToldSync old new = IsToldNothing old new ⊎ IsTold Sync (Done (Ok tt)) old new
 
--- an answer of the engine after which a batch has its items still: a refusal in which it can't fail
+-- a refusal after which the batch still has its items, since the engine can't fail in it
 abbrev pub is_kept_after : Answer → Bool
 is_kept_after (Size (Ok size)) = false
 is_kept_after (Size (Err (Io kind path))) = false
@@ -91,18 +93,18 @@ is_kept_after (Size (Err Memory)) = false
 is_kept_after (Size (Err reason)) = true
 is_kept_after answer = false
 
--- where the seat was told such an answer the batch has its items still
+-- the batch still has its items if the seat got the receipt of such a refusal
 abbrev pub KeepsRefused : Batch → Batch → Seat → Seat → Type 0
 KeepsRefused items rest old new = (said : Answer) → IsTold (Write items false) said old new
     → is_kept_after said ≡ true → rest ≡ items
 
--- the seat was told of the write, which is at this place, and then maybe of the sync
+-- the seat got the receipt of the write, which is at this place, and then maybe of the sync
 abbrev pub IsToldInTurn : ℕ → Batch → ℕ → Seat → Seat → Type 0
 IsToldInTurn number items size old new = (written : Seat)
     × IsToldAt number (Write items false) (Size (Ok size)) old written
     × MayBeToldSync written new
 
--- the write failed so; or it was accepted, as the seat was told, and then the sync failed so
+-- the write failed so; or it was accepted, the seat got its receipt, and then the sync failed so
 abbrev pub FailsInTurn : Batch → Batch → Seat → Seat → Fault → Type 0
 FailsInTurn items rest old new e =
     FailsAs (Write items false) (Size (Err (reason_of e))) old new e

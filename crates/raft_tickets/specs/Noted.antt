@@ -10,8 +10,7 @@ use Rattle.raft_tickets.specs.Calls.{event_by}
 use Rattle.raft_tickets.specs.declared.desk.Noted.{Noted}
 
 module _ {F H R W J : Type 0} {g : Ghosts F H R W} where
-  -- a call of a seat is recorded so, or refused where the history is full or memory is wanting,
-  -- which changes nothing
+  -- a seat's call is recorded so; or the history is full or memory ran out, and nothing changes
   pub record NotesCall (IsRecorded : Receipt → Type 0) (IsUnchanged : Type 0) (seat : ℕ)
       (result : Result (Noted J) Fault) (old new : Shared F H R W g) : Type 0 where
     pub ok : IfOk result (λ noted. IsRecorded noted.receipt)

@@ -8,17 +8,19 @@ use Rattle.raft_records.specs.Contents.{Contents}
 use Rattle.raft_shared.specs.Shared.{base_of, engine_of, had_failed, limit_of, refusals_at_new}
 use Rattle.raft_shared.specs.declared.shared.Shared.{Shared}
 
+-- what no call of a shared engine changes
 pub record Origin : Type 0 where
   -- the settings that it was opened with, and what its opening found
   pub settings : Config
   pub found : Contents
-  -- what it held when it was shared, whether it had failed, and how many calls of its files had
+  -- what it held when it was shared, if it had failed, and how many calls of its files had failed
   pub base : Contents
   pub failed : Bool
   pub refusals : Refusals
   -- how many calls its history may have
   pub limit : ℕ
 
+-- the origin of a shared engine
 abbrev pub origin_of : {F H R W : Type 0} {g : Ghosts F H R W} → Shared F H R W g → Origin
 origin_of shared = record {
   settings = settings_of (engine_of shared);

@@ -21,7 +21,7 @@ use raft_shared::{Finished, Purged, Receipt, Recorded, Reply, Seat, Shared, Unfi
 pub struct Desk<F: FileSystem, J: Naming> {
     shared: Shared<F>,
     front: Front<J>,
-    // The place of the last sync or purge that was answered.
+    // The place of the last sync or purge that returned `Ok`.
     synced: Option<usize>,
     ghost begins: { take (length front) (history_of shared) ≡ front } by { Prim.hlevel props },
     ghost durable: { AreDurableTo synced shared } by { Prim.hlevel props },
@@ -144,7 +144,7 @@ impl<F: FileSystem, J: Naming> Desk<F, J> {
         if front.len() > self.front.len() {
             return false;
         }
-        // It tells clauses that both are beginnings of one list.
+        // It shows clauses that both are beginnings of one list.
         let _both = self.front.longer(front);
         true
     }
@@ -179,7 +179,7 @@ impl<F: FileSystem, J: Naming> Desk<F, J> {
     }
 }
 
-// The place of the last answered sync or purge, after one that has this receipt.
+// The place of the last successful sync or purge, after one that has this receipt.
 fn synced_by(before: Option<usize>, receipt: &Receipt) -> Option<usize>
     ensures value { result ≡ (if is_done (told_by receipt.now).answer then Some receipt.now.number
         else before) }
@@ -190,7 +190,7 @@ fn synced_by(before: Option<usize>, receipt: &Receipt) -> Option<usize>
     }
 }
 
-// Adds a call to a front that ends before it, where the book has no other call there.
+// Adds a call to a front that ends before it, if the book has no other call there.
 fn note<J: Naming>(front: &mut Front<J>, book: &Book<J>, seat: usize, receipt: Receipt) -> Noted<J>
     ensures receipt { result.receipt ≡ receipt }
     ensures some { IfSome result.front (λ longer. (front.new ≡ longer)

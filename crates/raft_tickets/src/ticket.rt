@@ -42,8 +42,8 @@ pub struct Durable<J: Naming> {
 impl<J: Naming> Ticket<J> {
     ghost use Rattle.raft_tickets.specs.Answer.{Answers};
 
-    // The ticket of a write that has this receipt, in a history that has it. Else the fault that
-    // the engine answered, or `Layer` for the receipt of another call.
+    // The ticket of a write that has this receipt, in a history that has it. Otherwise the fault
+    // that the engine returned, or `Layer` for the receipt of another call.
     pub(crate) fn of(receipt: Receipt, front: Front<J>) -> Result<Ticket<J>, Fault>
         requires { (size : ℕ) → (told_by receipt).answer ≡ Size (Ok size)
             → is_write_at receipt.number front ≡ true }
@@ -104,8 +104,8 @@ impl<J: Naming> Ticket<J> {
 }
 
 impl<J: Naming> Covered<J> {
-    // The sync that has this receipt, in a history that has it. Else the fault that the engine
-    // answered, or `Layer` for the receipt of another call.
+    // The sync that has this receipt, in a history that has it. Otherwise the fault that the engine
+    // returned, or `Layer` for the receipt of another call.
     pub(crate) fn of(receipt: Receipt, front: Front<J>) -> Result<Covered<J>, Fault>
         requires { (told_by receipt).answer ≡ Done (Ok tt)
             → is_sync_at receipt.number front ≡ true }

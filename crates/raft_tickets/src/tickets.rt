@@ -21,7 +21,7 @@ pub struct Tickets<F: FileSystem, J: Naming> {
     gate: Mutex<Gate<J>>,
     // A write is done, for the one that leads.
     written: Condvar,
-    // A sync was answered, for those that wait.
+    // A sync has returned, for those that wait.
     answered: Condvar,
     bound: u64,
 }
@@ -118,7 +118,7 @@ impl<F: FileSystem, J: Naming> Tickets<F, J> {
         }
     }
 
-    // The ticket's answer. Where there is none yet and nobody leads, the ticket, and this thread
+    // The ticket's result. If there is none yet and nobody leads: the ticket, and this thread
     // leads.
     fn turn<R: Wait>(&self, rt: &R, ticket: Ticket<J>) -> Result<Durable<J>, Ticket<J>>
         ensures ok { IfOk result (Answers ticket) }
@@ -159,7 +159,7 @@ impl<F: FileSystem, J: Naming> Tickets<F, J> {
         }
     }
 
-    // Shows a sync that was answered, and lets another thread lead.
+    // Shows the result of a sync, and lets another thread lead.
     fn hand_over<R: Wait>(&self, rt: &R, synced: &Result<Covered<J>, Fault>) {
         let mut gate = self.gate.lock(rt);
         if let Ok(covered) = synced {

@@ -16,8 +16,7 @@ use Rattle.raft_log_engine.specs.Group.{LeavesChoice, chosen_of}
 use Rattle.raft_log_engine.specs.declared.engine.Engine.{Engine}
 use Rattle.raft_world.specs.Ledger.{Effect}
 
--- batches that may be written at these contents one after the other: each number in them is greater
--- than the one that its group keeps then
+-- batches that may be written in turn: each number exceeds the one that its group keeps then
 abbrev pub MayFollow : Contents → List Batch → Type 0
 MayFollow m batches = ∥ ((acts : List Act) × (are_written acts ≡ batches) × MayAllAct m acts) ∥₁
 

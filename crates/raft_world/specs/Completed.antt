@@ -6,8 +6,7 @@ use Rattle.raft_log_engine.specs.Engine.{directory_of, has_failed, queue_of, rew
 use Rattle.raft_log_engine.specs.Opening.{FoundCompletedRecords}
 use Rattle.raft_log_engine.specs.declared.engine.Engine.{Engine}
 
--- if the engine hasn't failed, and only writes failed on a queue's last log file: up to its writer's
--- place the file holds records that calls completed, written since the file was renamed
+-- if only writes failed on a queue's last file, it has completed records up to its writer's place
 abbrev pub LastFilesAreCompleted : {F H R W : Type 0} → Ghosts F H R W → Type 0
 LastFilesAreCompleted {F} {H} {R} {W} g = (e : Engine F H R W g) → has_failed e ≡ false
     → FoundCompletedRecords e → PipeHasCompletedLogIfSimple (queue_of e) (directory_of e)

@@ -23,7 +23,7 @@ use Rattle.raft_log_engine.specs.declared.engine.Refused.{Refused}
 use Rattle.raft_world.specs.Call.{Closes, GivesUp, HasEffect, Reopens}
 use Rattle.raft_world.specs.Ledger.{Effect}
 
--- a write of one batch: accepted if the call returns `Ok`, and then synced if that was asked for
+-- a write of one batch: accepted if the call returns `Ok`, and then synced if requested
 abbrev pub write_effect : {T : Type 0} → Batch → Bool → Result T Fault → Effect
 write_effect batch sync result = record {
   writes = batch ∷ [];
@@ -31,7 +31,7 @@ write_effect batch sync result = record {
   syncs = covered_by result sync;
 }
 
--- a write of several batches, each accepted if its own answer is `Ok`
+-- a write of several batches, each accepted if its own result is `Ok`
 abbrev pub group_effect : List Batch → Bool → Result (Vec (Result ℕ Fault) Global) Fault → Effect
 group_effect batches sync (Ok answers) = record {
   writes = plain_parts batches;

@@ -38,7 +38,7 @@ pub record IsAfterCrash (n after : Directory) : Type 0 where
   pub leaves : Leaves n left
   pub restarted : IsRestarted n left after
 
--- .. with detectable damage: the premise of the law (docs/READING.md)
+-- a crash left these files with detectable damage: the premise of the law (docs/READING.md)
 pub record HasCrashed (folders : Folders) (n after : Directory) : Type 0 where
   pub crash : IsAfterCrash n after
   pub detectable : AreDetectableIn folders n crash.left
@@ -53,7 +53,7 @@ pub record LeavesLog (folders : Folders) (n later : Directory) : Type 0 where
   pub others : LeavesOtherFiles folders n later
 
 module _ {F H R W : Type 0} (g : Ghosts F H R W) where
-  -- a node runs an engine, is inside a call, or is down; then there are files alone
+  -- a node runs an engine, is inside a call, or is down, when there are only files
   pub data Node : Type 0 where
     Running : (e : Engine F H R W g) → Node
     Inside : (n : Directory) → Node
@@ -121,7 +121,7 @@ module _ {F H R W : Type 0} (g : Ghosts F H R W) (folders : Folders) (first : Le
     GivenUp : (e : Engine F H R W g) (l : Ledger) (files : F) → Happens (Running e) l
         → GivesUp e files → AreDetectable folders (g.directory files)
         → Happens (Down (g.directory files)) l
-    -- another process or value reads the files anew, with the bytes that they had
+    -- another process or value reads the files again, with the bytes that they had
     Restarted : (n later : Directory) (l : Ledger) → Happens (Down n) l
         → IsRestarted n (as_it_is n) later → Happens (Down later) l
     -- the files are taken as they are, perhaps without reserved ones: by another value, or after an

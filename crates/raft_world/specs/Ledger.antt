@@ -54,8 +54,7 @@ after_effect effect l =
 abbrev pub interrupted : Effect → Ledger → Ledger
 interrupted effect l = record l { in_flight = effect.writes }
 
--- the ledger after an opening that finds so many of the batches that a crash may take, where these
--- of the batches in flight were written
+-- the ledger after an opening that finds `count` batches; `written` chooses of those in flight
 abbrev pub after_crash : Ledger → List Bool → ℕ → Ledger
 after_crash l written count =
     let found = take count (l.unsynced ++ chosen_of (accepted_contents l) written l.in_flight) in

@@ -10,8 +10,7 @@ use Rattle.raft_world.specs.Call.{HasEffect}
 use Rattle.raft_world.specs.Ledger.{Effect, interrupted}
 use Rattle.raft_world.specs.Happens.{FindsOnly, HasCrashed, HasOpened, IsMoment, LeavesLog, ledger_of}
 
--- an opening after a crash inside the call finds what the interrupted call may leave, or fails with
--- a cause
+-- an opening after a crash inside the call finds what the call may leave, or fails with a cause
 abbrev pub CrashInCall : {F H R W : Type 0} → Ghosts F H R W → Type 0
 CrashInCall {F} {H} {R} {W} g = (old new : Engine F H R W g) (effect : Effect)
     (n after : Directory) (config : Config) (files : F) (answer : Result (Engine F H R W g) (Refused F))

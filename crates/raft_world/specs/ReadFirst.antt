@@ -1,4 +1,4 @@
--- Without the premise: what is read first of the files after a crash with any damage.
+-- Without the premise: which batches are read first after a crash with any damage.
 use Rattle.std.specs.Prelude.{◌≡◌, ◌++◌, List}
 use Rattle.raft_base.specs.declared.pipe_log.LogQueue.TheVariants.{Append, Rewrite}
 use Rattle.raft_records.specs.Contents.{Contents}

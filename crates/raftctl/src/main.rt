@@ -5,7 +5,7 @@ use anyhow::{Result, bail};
 use clap::Error;
 use raft_command_line::{Request, Verb, arrange, completion_script, parse, printable};
 use raft_commands::{change, look};
-use raft_console::{Status, print_bytes, take_closed_streams, tell, tell_file_limit};
+use raft_console::{Status, check_file_limit, print_bytes, take_closed_streams, tell};
 use raft_offline::{fork_folder, print_settings, settings_of};
 use raft_salvage::{import_folder, import_lines, salvage};
 use raft_watch::watch;
@@ -14,25 +14,41 @@ use std::process::ExitCode;
 use std::thread::Threads;
 
 fn main(rt: HostRuntime) -> ExitCode {
-    if let Err(error) = take_closed_streams(&rt) {
-        return failed(&rt, false, &error);
+    match take_closed_streams(&rt) {
+        Ok(()) => begin(rt, &rt),
+        Err(error) => failed(&rt, false, &error),
     }
-    let words = match words(&rt) {
-        Ok(words) => words,
-        Err(error) => return failed(&rt, false, &error),
-    };
+}
+
+fn begin<R: Threads + Sync>(rt: HostRuntime, threads: &R) -> ExitCode {
+    match words(&rt) {
+        Ok(words) => do_words(rt, threads, &words),
+        Err(error) => failed(&rt, false, &error),
+    }
+}
+
+fn do_words<R: Threads + Sync>(rt: HostRuntime, threads: &R, words: &[String]) -> ExitCode {
+    if asks_completion(words) {
+        return completed(&rt);
+    }
     let json = words.iter().any(|word| word.as_str() == "--json");
-    if let [_, option] = words.as_slice() {
-        if option.as_str() == "--completion" {
-            return completed(&rt);
-        }
-    }
-    match parse(rt.alloc(), words.as_slice()) {
-        Ok(request) => match run(rt, &rt, request) {
-            Ok(status) => ExitCode::from(status.code()),
-            Err(error) => failed(&rt, json, &error),
-        },
+    match parse(rt.alloc(), words) {
+        Ok(request) => ended(&rt, json, run(rt, threads, request)),
         Err(error) => misused(&rt, json, &error),
+    }
+}
+
+fn asks_completion(words: &[String]) -> bool {
+    match words {
+        [_, option] => option.as_str() == "--completion",
+        _ => false,
+    }
+}
+
+fn ended(rt: &HostRuntime, json: bool, done: Result<Status>) -> ExitCode {
+    match done {
+        Ok(status) => ExitCode::from(status.code()),
+        Err(error) => failed(rt, json, &error),
     }
 }
 
@@ -95,17 +111,35 @@ fn print_misuse(rt: &HostRuntime, json: bool, error: &Error) -> Result<()> {
 fn run<R: Threads + Sync>(rt: HostRuntime, threads: &R, request: Request<'_>) -> Result<Status> {
     let settings = settings_of(&rt, &request)?;
     let request = request.over(&settings);
-    tell_file_limit(&rt, &request.options)?;
+    do_request(rt, threads, &request)
+}
+
+fn do_request<R: Threads + Sync>(
+    rt: HostRuntime,
+    threads: &R,
+    request: &Request<'_>,
+) -> Result<Status> {
+    check_file_limit(&rt, request)?;
     match &request.verb {
-        Verb::Look(what) => look(rt, threads, &request, *what),
+        Verb::Look(what) => look(rt, threads, request, *what),
         Verb::Settings => print_settings(&rt, &request.options),
-        Verb::Fork(target) => fork_folder(rt, &request, target),
+        Verb::Fork(target) => fork_folder(rt, request, target),
+        Verb::Watch(asked) => watch(rt, request, *asked),
+        _ => change_log(rt, threads, request),
+    }
+}
+
+fn change_log<R: Threads + Sync>(
+    rt: HostRuntime,
+    threads: &R,
+    request: &Request<'_>,
+) -> Result<Status> {
+    match &request.verb {
         Verb::Import(import) => match import.folder {
-            Some(folder) => import_folder(rt, threads, &request, *import, folder),
-            None => import_lines(rt, threads, &request, *import),
+            Some(folder) => import_folder(rt, threads, request, *import, folder),
+            None => import_lines(rt, threads, request, *import),
         },
-        Verb::Salvage(asked) => salvage(rt, threads, &request, asked),
-        Verb::Watch(asked) => watch(rt, &request, *asked),
-        _ => change(rt, threads, &request),
+        Verb::Salvage(asked) => salvage(rt, threads, request, asked),
+        _ => change(rt, threads, request),
     }
 }

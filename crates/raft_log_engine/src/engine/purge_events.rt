@@ -13,7 +13,7 @@ impl<F: FileSystem> Engine<F> {
     ghost use Rattle.raft_log_engine.specs.Engine.{has_failed, queue_of, rewrite_queue_of, spans_of};
     ghost use Rattle.raft_pipes.specs.PipeState.{last_seq};
 
-    /// The numbers of its log files. Of an engine that failed nothing is said.
+    /// The numbers of its log files. If the engine failed, nothing is said of them.
     pub fn file_spans(&self) -> FileSpans
         ensures append { result.append
             ≡ ((queue_of self.now).first, last_seq (queue_of self.now)) }
@@ -28,7 +28,7 @@ impl<F: FileSystem> Engine<F> {
         }
     }
 
-    // Tells what a purge made of these files. Of an engine that failed nothing is said.
+    // Reports what a purge did to these files. If the engine failed, nothing is reported.
     pub(super) fn tell_purge<L: EventSink>(&self, found: &FileSpans, listeners: &mut L)
         requires room { 0 < (L.heard listeners.old).room }
         requires fits { found.now.append.1 < 10 ^ 16 }

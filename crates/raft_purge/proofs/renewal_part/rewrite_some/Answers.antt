@@ -266,3 +266,9 @@ returns-clause-rewrites g c = record {
 
 pub rewrite_each_anew-requires-clause-within : goal.rewrite_each_anew-requires-clause-within
 rewrite_each_anew-requires-clause-within g c = λ κs within. let none = c.of_rewrite-rewriter.ensures.held in omega (arith, none)
+
+pub write_anew-written-requires-clause-cut : goal.write_anew-written-requires-clause-cut
+write_anew-written-requires-clause-cut g c = λ κs within due.
+    let self = c.rewrite_each_anew.new.self in
+    let batch = self.rewriting.batch.items in
+    cut_small batch (few_held self.held (bytes_held batch) self.counted c.in_ok-rewrite_each_anew.ensures.within)

@@ -1,9 +1,0 @@
-use denote.Param.Send.{sendable}
-use Rattle.raft_memory.proofs.Sent.{memory_send, memory_sync}
-use Rattle.raft_queue_scenarios.proofs.recovering.is_refused_in_memory.Goals as goal
-
-pub is_refused-requires-send-F : goal.is_refused-requires-send-F
-is_refused-requires-send-F g c κs = search (sendable, memory_send) depth 20
-
-pub is_refused-requires-sync-F : goal.is_refused-requires-sync-F
-is_refused-requires-sync-F g c κs = search (sendable, memory_send, memory_sync) depth 20

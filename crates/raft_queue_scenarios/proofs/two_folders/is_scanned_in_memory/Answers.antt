@@ -1,9 +1,0 @@
-use denote.Param.Send.{sendable}
-use Rattle.raft_memory.proofs.Sent.{memory_send, memory_sync}
-use Rattle.raft_queue_scenarios.proofs.two_folders.is_scanned_in_memory.Goals as goal
-
-pub is_scanned-requires-send-F : goal.is_scanned-requires-send-F
-is_scanned-requires-send-F c κs = search (sendable, memory_send) depth 20
-
-pub is_scanned-requires-sync-F : goal.is_scanned-requires-sync-F
-is_scanned-requires-sync-F c κs = search (sendable, memory_send, memory_sync) depth 20

@@ -1,0 +1,39 @@
+//! What workers do over files in memory.
+
+use crate::failing::Failing;
+use crate::{meeting, recovering};
+use raft_builder::RecoveryConfig;
+use raft_memory::{FsCall, MemoryFileSystem};
+use std::alloc::Global;
+use std::thread::Threads;
+
+/// What workers do over files that are fresh.
+#[derive(Clone, Copy)]
+pub(crate) enum Worked {
+    /// So many read both queues.
+    Both(&'static recovering::Case, usize),
+    /// They read one queue by itself.
+    Alone(&'static recovering::Case, RecoveryConfig),
+    /// So many read both queues, and the nth call of a sort is refused.
+    Refused(FsCall, u64, usize),
+    /// Two meet in both queues, or in one that is read by itself.
+    Meeting(bool),
+}
+
+fn works<R: Threads + Sync, F: Failing>(rt: &R, alloc: Global, worked: &Worked) -> bool {
+    match worked {
+        Worked::Both(case, threads) => recovering::finds_all::<R, F>(rt, alloc, case, *threads),
+        Worked::Alone(case, recovery) => {
+            recovering::is_read_alone::<R, F>(rt, alloc, case, *recovery)
+        }
+        Worked::Refused(call, nth, threads) => {
+            recovering::is_refused::<R, F>(rt, alloc, *call, *nth, *threads)
+        }
+        Worked::Meeting(is_alone) => meeting::meet::<R, F>(rt, alloc, *is_alone),
+    }
+}
+
+/// Whether it comes to what is wanted.
+pub(crate) fn works_in_memory<R: Threads + Sync>(rt: &R, alloc: Global, worked: &Worked) -> bool {
+    works::<R, MemoryFileSystem>(rt, alloc, worked)
+}
