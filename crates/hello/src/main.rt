@@ -6,19 +6,22 @@ use raft_log_engine::{Config, Engine, Fault, FileSystem, Fresh, LogBatch};
 use std::alloc::Global;
 
 fn main(rt: HostRuntime) -> Result<(), anyhow::Error> {
-    put(rt.alloc(), DiskFileSystem::open(rt, "log")?)?;
-    let found = has(rt.alloc(), DiskFileSystem::open(rt, "log")?)?;
+    let found = put_and_find(rt.alloc(), DiskFileSystem::open(rt, "log")?)?;
     println!(rt; "the key is found: {found}")?;
     Ok(())
 }
 
-fn put<F: FileSystem + Drop>(alloc: Global, files: F) -> Result<(), Fault> {
+fn put_and_find<F: FileSystem + Drop>(alloc: Global, files: F) -> Result<bool, Fault> {
+    let files = put(alloc, files)?;
+    has(alloc, files)
+}
+
+fn put<F: FileSystem + Drop>(alloc: Global, files: F) -> Result<F, Fault> {
     let mut batch = LogBatch::new(alloc);
     batch.put(1, b"state".to_vec(alloc)?, b"follower".to_vec(alloc)?)?;
     let mut engine = Engine::open_in_order(alloc, Config::fresh(alloc), files)?;
     engine.write(&mut batch, true)?;
-    engine.close()?;
-    Ok(())
+    Ok(engine.close()?)
 }
 
 fn has<F: FileSystem + Drop>(alloc: Global, files: F) -> Result<bool, Fault> {

@@ -9,7 +9,6 @@ use std::io;
 use std::io::Write;
 
 /// The result of a line.
-#[derive(Drop)]
 pub(crate) enum Answer {
     Nothing,
     /// A reopening, or a crash and the opening after it.
@@ -23,6 +22,21 @@ pub(crate) enum Answer {
     Pairs(Result<Vec<KeyAndValue>, Fault>),
     /// The engine is gone, so that the program ends.
     Fatal(Fault),
+}
+
+// One call in a proof that drops it; derived, it would be one of each variant's fields (docs/DECISIONS.md).
+impl Drop for Answer {
+    fn drop(self) {
+        match self {
+            Answer::Nothing => {}
+            Answer::Done => {}
+            Answer::Outcome(_outcome) => {}
+            Answer::Range(_) => {}
+            Answer::Span(_) => {}
+            Answer::Pairs(_pairs) => {}
+            Answer::Fatal(_fault) => {}
+        }
+    }
 }
 
 impl Answer {

@@ -1,84 +1,109 @@
-//! Entries of text with a message that has the last index, as raft-engine's tests use them.
+//! Entries for each group of a range and each index of another, and how such entries are read again.
 
-use crate::answer::{Answer, Unanswered};
-use crate::batch::text_entries;
+use crate::batch::{add_raw, add_texts};
+use crate::line::Line;
 use crate::looks::lends;
-use crate::words::{Names, Spelled, bytes_of, number};
 use raft_env::FileSystem;
 use raft_records::{Fault, LogBatch, LogQueue};
 use raft_test_rows::{Engine, TextEntry};
-use std::alloc::Global;
+use std::alloc::{AllocError, Global};
 
 /// The key of the message.
 const LAST_INDEX: &str = "last_index";
 
-/// Entries with one word for each group of a range and each index of another.
-#[derive(Drop)]
-pub(crate) struct Appends {
+fn write_raw<F: FileSystem>(
+    alloc: Global,
+    engine: &mut Engine<F>,
+    group: u64,
+    index: u64,
+    bytes: &[u8],
+) -> Result<(), Fault> {
+    let mut batch = LogBatch::new(alloc);
+    add_raw(alloc, &mut batch, group, index, bytes.to_vec(alloc)?)?;
+    engine.write(&mut batch, false)?;
+    Ok(())
+}
+
+/// Writes an entry with these bytes for each group and index, in a batch of its own.
+pub(crate) fn write_each<F: FileSystem>(
+    alloc: Global,
+    engine: &mut Engine<F>,
     groups: (u64, u64),
     indexes: (u64, u64),
-    word: Vec<u8>,
+    bytes: &[u8],
+) -> Result<(), Fault> {
+    for group in groups.0..=groups.1 {
+        for index in indexes.0..=indexes.1 {
+            write_raw(alloc, engine, group, index, bytes)?;
+        }
+    }
+    Ok(())
+}
+
+/// Entries of text with a message that has the last index, as raft-engine's tests use them: for each
+/// group of a range and each index of another.
+#[derive(Clone, Copy)]
+pub(crate) struct Appends {
+    pub(crate) groups: (u64, u64),
+    pub(crate) indexes: (u64, u64),
     /// Each entry is in a batch of its own, and not with the others of its group.
-    is_each: bool,
+    pub(crate) is_each: bool,
 }
 
 impl Appends {
-    pub(crate) fn read(
-        alloc: Global,
-        names: &Names,
-        words: &[&str],
-    ) -> Result<Appends, Unanswered> {
-        let [group, last_group, index, last, word, how @ ..] = words else {
-            return Err(Unanswered::BadLine);
-        };
-        let is_each = match how {
-            [] => false,
-            ["each"] => true,
-            _ => return Err(Unanswered::BadLine),
-        };
-        Ok(Appends {
-            groups: (number(group)?, number(last_group)?),
-            indexes: (number(index)?, number(last)?),
-            word: bytes_of(alloc, names, word)?,
-            is_each,
-        })
-    }
-
     /// Writes a batch for each group, or for each group and index, with a sync.
     pub(crate) fn write<F: FileSystem>(
-        &self,
+        self,
         alloc: Global,
         engine: &mut Engine<F>,
+        word: &[u8],
     ) -> Result<(), Fault> {
         for group in self.groups.0..=self.groups.1 {
-            if self.is_each {
-                for index in self.indexes.0..=self.indexes.1 {
-                    self.write_between(alloc, engine, group, (index, index))?;
-                }
-            } else {
-                self.write_between(alloc, engine, group, self.indexes)?;
-            }
+            self.write_group(alloc, engine, group, word)?;
         }
         Ok(())
     }
 
-    fn write_between<F: FileSystem>(
-        &self,
+    fn write_group<F: FileSystem>(
+        self,
         alloc: Global,
         engine: &mut Engine<F>,
         group: u64,
-        indexes: (u64, u64),
+        word: &[u8],
     ) -> Result<(), Fault> {
-        let mut batch = LogBatch::new(alloc);
-        let entries = text_entries(alloc, indexes.0, indexes.1, &self.word)?;
-        batch.add_entries::<TextEntry>(group, &entries)?;
-        let index = indexes.1;
-        let word = Vec::new(alloc);
-        let key = LAST_INDEX.as_bytes().to_vec(alloc)?;
-        batch.put_message(group, key, &TextEntry { index, word })?;
-        engine.write(&mut batch, true)?;
+        if !self.is_each {
+            return write_between(alloc, engine, group, self.indexes, word);
+        }
+        for index in self.indexes.0..=self.indexes.1 {
+            write_between(alloc, engine, group, (index, index), word)?;
+        }
         Ok(())
     }
+}
+
+fn write_between<F: FileSystem>(
+    alloc: Global,
+    engine: &mut Engine<F>,
+    group: u64,
+    indexes: (u64, u64),
+    word: &[u8],
+) -> Result<(), Fault> {
+    let mut batch = LogBatch::new(alloc);
+    add_texts(alloc, &mut batch, group, indexes, word)?;
+    add_last_index(alloc, &mut batch, group, indexes.1)?;
+    engine.write(&mut batch, true)?;
+    Ok(())
+}
+
+fn add_last_index(
+    alloc: Global,
+    batch: &mut LogBatch,
+    group: u64,
+    index: u64,
+) -> Result<(), Fault> {
+    let key = LAST_INDEX.as_bytes().to_vec(alloc)?;
+    let word = Vec::new(alloc);
+    batch.put_message(group, key, &TextEntry { index, word })
 }
 
 // Whether the indexes follow one another from the first one on, and all words are the same.
@@ -92,23 +117,37 @@ fn are_alike(entries: &[TextEntry], first: u64, word: &[u8]) -> bool {
     true
 }
 
-// In which queue an entry is, if `get_entry` and `load_entry` find what was fetched.
-fn queue_of<F: FileSystem>(
+fn is_same(copied: Option<&TextEntry>, entry: &TextEntry) -> bool {
+    match copied {
+        Some(copied) => {
+            copied.index == entry.index && copied.word.as_slice() == entry.word.as_slice()
+        }
+        None => false,
+    }
+}
+
+// Whether `get_entry` and `load_entry` find what was fetched.
+fn is_found<F: FileSystem>(
     alloc: Global,
     engine: &mut Engine<F>,
     group: u64,
     entry: &TextEntry,
-) -> Result<Option<LogQueue>, Unanswered> {
-    let Some(copied) = engine.get_entry::<TextEntry>(group, entry.index)? else {
-        return Ok(None);
-    };
-    if copied.index != entry.index || copied.word.as_slice() != entry.word.as_slice() {
-        return Ok(None);
+) -> Result<bool, Fault> {
+    let copied = engine.get_entry::<TextEntry>(group, entry.index)?;
+    if is_same(copied.as_ref(), entry) {
+        lends(alloc, engine, group, entry.index, Some(entry))
+    } else {
+        Ok(false)
     }
-    if !lends(alloc, engine, group, entry.index, Some(entry))? {
-        return Ok(None);
-    }
-    let Some(place) = engine.load_entry(group, entry.index)? else {
+}
+
+// In which queue an entry is, if it is found.
+fn queue_of<F: FileSystem>(
+    engine: &mut Engine<F>,
+    group: u64,
+    index: u64,
+) -> Result<Option<LogQueue>, Fault> {
+    let Some(place) = engine.load_entry(group, index)? else {
         return Ok(None);
     };
     match place.block {
@@ -117,71 +156,130 @@ fn queue_of<F: FileSystem>(
     }
 }
 
-// The queues in which the entries are, or none if an entry is read otherwise.
+/// In which queues entries are, and whether all are found.
+#[derive(Clone, Copy)]
+struct Queues {
+    in_append: bool,
+    in_rewrite: bool,
+    are_found: bool,
+}
+
+impl Queues {
+    fn add(&mut self, queue: Option<LogQueue>) {
+        match queue {
+            Some(LogQueue::Append) => self.in_append = true,
+            Some(LogQueue::Rewrite) => self.in_rewrite = true,
+            None => self.are_found = false,
+        }
+    }
+
+    fn name(self) -> &'static str {
+        match (self.in_append, self.in_rewrite) {
+            (true, true) => "both",
+            (true, false) => "append",
+            _ => "rewrite",
+        }
+    }
+}
+
 fn queues_of<F: FileSystem>(
     alloc: Global,
     engine: &mut Engine<F>,
     group: u64,
     entries: &[TextEntry],
-) -> Result<Option<&'static str>, Unanswered> {
-    let mut in_append = false;
-    let mut in_rewrite = false;
+) -> Result<Queues, Fault> {
+    let mut queues = Queues {
+        in_append: false,
+        in_rewrite: false,
+        are_found: true,
+    };
     for entry in entries {
-        match queue_of(alloc, engine, group, entry)? {
-            Some(LogQueue::Append) => in_append = true,
-            Some(LogQueue::Rewrite) => in_rewrite = true,
-            None => return Ok(None),
+        if is_found(alloc, engine, group, entry)? {
+            queues.add(queue_of(engine, group, entry.index)?);
+        } else {
+            queues.are_found = false;
+        }
+        if !queues.are_found {
+            break;
         }
     }
-    Ok(Some(match (in_append, in_rewrite) {
-        (true, true) => "both",
-        (true, false) => "append",
-        _ => "rewrite",
-    }))
+    Ok(queues)
 }
 
-fn told(
+// The index of a group's message.
+fn last_index_of<F: FileSystem>(engine: &Engine<F>, group: u64) -> Result<Option<u64>, Fault> {
+    match engine.get_message::<TextEntry>(group, LAST_INDEX.as_bytes())? {
+        Some(message) => Ok(Some(message.index)),
+        None => Ok(None),
+    }
+}
+
+fn fetched<F: FileSystem>(
     alloc: Global,
+    engine: &mut Engine<F>,
+    group: u64,
+    indexes: (u64, u64),
+) -> Result<Vec<TextEntry>, Fault> {
+    let mut entries = Vec::new(alloc);
+    let end = indexes.1.saturating_add(1);
+    engine.fetch_entries_to::<TextEntry>(group, indexes.0, end, None, &mut entries)?;
+    Ok(entries)
+}
+
+// What is said of all entries of a group.
+fn say(
+    line: &mut Line,
     entries: &[TextEntry],
-    queues: &str,
-    named: Option<&TextEntry>,
-) -> Result<Answer, Unanswered> {
-    let (Some(first), Some(last)) = (entries.first(), entries.last()) else {
-        return Ok(Answer::Text(String::from_str(alloc, "none")?));
+    indexes: (u64, u64),
+    queues: Queues,
+    named: Option<u64>,
+) {
+    let word = match entries.first() {
+        Some(entry) => entry.word.as_slice(),
+        None => return line.said.say("entries differ"),
     };
-    let word = Spelled(&first.word);
-    let (first, last) = (first.index, last.index);
-    let text = match named {
-        Some(message) => {
-            let index = message.index;
-            format!(in alloc; "{first} {last} {word} {queues} {index}")?
-        }
-        None => format!(in alloc; "{first} {last} {word} {queues} -")?,
-    };
-    Ok(Answer::Text(text))
+    if !queues.are_found || !are_alike(entries, indexes.0, word) {
+        return line.said.say("entries differ");
+    }
+    line.said.pair(indexes.0, last_of(entries));
+    line.said.spell(" ", word);
+    line.said.say(" ");
+    line.said.say(queues.name());
+    match named {
+        Some(index) => line.said.with(" ", index),
+        None => line.said.say(" -"),
+    }
+}
+
+fn last_of(entries: &[TextEntry]) -> u64 {
+    match entries.last() {
+        Some(entry) => entry.index,
+        None => 0,
+    }
+}
+
+fn look<F: FileSystem>(
+    line: &mut Line,
+    engine: &mut Engine<F>,
+    group: u64,
+    indexes: (u64, u64),
+) -> Result<(), Fault> {
+    let entries = fetched(line.alloc, engine, group, indexes)?;
+    let queues = queues_of(line.alloc, engine, group, &entries)?;
+    let named = last_index_of(engine, group)?;
+    say(line, &entries, indexes, queues, named);
+    Ok(())
 }
 
 /// All entries of a group, fetched, got one by one and lent: the first and the last index, the word
 /// of each, the queues in which they are, and the index in the group's message.
-pub(crate) fn whole<F: FileSystem>(
-    alloc: Global,
-    engine: &mut Engine<F>,
-    group: u64,
-) -> Result<Answer, Unanswered> {
-    let (Some(first), Some(last)) = (engine.first_index(group), engine.last_index(group)) else {
-        return Ok(Answer::Text(String::from_str(alloc, "none")?));
-    };
-    let mut entries: Vec<TextEntry> = Vec::new(alloc);
-    let end = last.saturating_add(1);
-    engine.fetch_entries_to::<TextEntry>(group, first, end, None, &mut entries)?;
-    let is_alike = match entries.first() {
-        Some(one) => are_alike(&entries, first, &one.word),
-        None => false,
-    };
-    let queues = queues_of(alloc, engine, group, &entries)?;
-    let named = engine.get_message::<TextEntry>(group, LAST_INDEX.as_bytes())?;
-    match queues {
-        Some(queues) if is_alike => told(alloc, &entries, queues, named.as_ref()),
-        _ => Ok(Answer::Text(String::from_str(alloc, "entries differ")?)),
+pub(crate) fn whole<F: FileSystem>(line: &mut Line, engine: &mut Engine<F>) -> Result<(), Fault> {
+    let group = line.number(0);
+    match (engine.first_index(group), engine.last_index(group)) {
+        (Some(first), Some(last)) => look(line, engine, group, (first, last)),
+        _ => {
+            line.said.say("none");
+            Ok(())
+        }
     }
 }

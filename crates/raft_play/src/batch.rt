@@ -1,23 +1,33 @@
 //! Lines that put something into the batch of the next write.
 
-use crate::answer::{Answer, Unanswered};
+use crate::asked::{BatchLine, EntriesLine, KeyLine};
+use crate::line::Line;
 use crate::plain::Plain;
-use crate::words::{Names, bytes_of, number, one};
 use raft_records::{Command, EntryIndex, Fault, LogBatch};
 use raft_test_rows::{Outcome, TextEntry};
 use std::alloc::{AllocError, Global};
 use std::mem;
 
 /// The batch of the next write, and the batches of the next group with a flag each.
-#[derive(Drop)]
 pub(crate) struct Writing {
     pub(crate) batch: LogBatch,
     pub(crate) batches: Vec<LogBatch>,
     pub(crate) syncs: Vec<bool>,
 }
 
+// One call in a proof that drops it; derived, it would be one of each field (docs/DECISIONS.md).
+impl Drop for Writing {
+    fn drop(self) {
+        let Writing {
+            batch: _batch,
+            batches: _batches,
+            syncs: _syncs,
+        } = self;
+    }
+}
+
 /// Entries with the indexes from the first to the last.
-pub(crate) fn text_entries(
+fn text_entries(
     alloc: Global,
     first: u64,
     last: u64,
@@ -29,6 +39,18 @@ pub(crate) fn text_entries(
         entries.push(TextEntry { index, word })?;
     }
     Ok(entries)
+}
+
+/// Adds entries of a word with the indexes from the first to the last.
+pub(crate) fn add_texts(
+    alloc: Global,
+    batch: &mut LogBatch,
+    group: u64,
+    indexes: (u64, u64),
+    word: &[u8],
+) -> Result<(), Fault> {
+    let entries = text_entries(alloc, indexes.0, indexes.1, word)?;
+    batch.add_entries::<TextEntry>(group, &entries)
 }
 
 /// Adds one entry with these bytes.
@@ -46,136 +68,35 @@ pub(crate) fn add_raw(
         entry_len: 0,
         lz4: false,
     };
-    batch.add_raw_entries(group, vec![in alloc; entry]?, vec![in alloc; bytes]?)
-}
-
-fn put(
-    alloc: Global,
-    names: &Names,
-    batch: &mut LogBatch,
-    group: u64,
-    words: &[&str],
-) -> Result<(), Unanswered> {
-    let [key, value] = words else {
-        return Err(Unanswered::BadLine);
-    };
-    let (key, value) = (bytes_of(alloc, names, key)?, bytes_of(alloc, names, value)?);
-    Ok(batch.put(group, key, value)?)
-}
-
-fn put_message(
-    alloc: Global,
-    names: &Names,
-    batch: &mut LogBatch,
-    group: u64,
-    words: &[&str],
-) -> Result<(), Unanswered> {
-    let [key, index, word] = words else {
-        return Err(Unanswered::BadLine);
-    };
-    let index = number(index)?;
-    let (key, word) = (bytes_of(alloc, names, key)?, bytes_of(alloc, names, word)?);
-    Ok(batch.put_message(group, key, &TextEntry { index, word })?)
-}
-
-fn add_entries(
-    alloc: Global,
-    names: &Names,
-    batch: &mut LogBatch,
-    group: u64,
-    words: &[&str],
-) -> Result<(), Unanswered> {
-    let [first, last, word] = words else {
-        return Err(Unanswered::BadLine);
-    };
-    let (first, last) = (number(first)?, number(last)?);
-    let word = bytes_of(alloc, names, word)?;
-    let entries = text_entries(alloc, first, last, &word)?;
-    Ok(batch.add_entries::<TextEntry>(group, &entries)?)
-}
-
-fn delete(
-    alloc: Global,
-    names: &Names,
-    batch: &mut LogBatch,
-    group: u64,
-    words: &[&str],
-) -> Result<(), Unanswered> {
-    let [key] = words else {
-        return Err(Unanswered::BadLine);
-    };
-    Ok(batch.delete(group, bytes_of(alloc, names, key)?)?)
-}
-
-fn add_bytes(
-    alloc: Global,
-    names: &Names,
-    batch: &mut LogBatch,
-    group: u64,
-    words: &[&str],
-) -> Result<(), Unanswered> {
-    let [index, bytes] = words else {
-        return Err(Unanswered::BadLine);
-    };
-    let index = number(index)?;
-    Ok(add_raw(alloc, batch, group, index, bytes_of(alloc, names, bytes)?)?)
+    let bytes = vec![in alloc; bytes]?;
+    batch.add_raw_entries(group, vec![in alloc; entry]?, bytes)
 }
 
 // One entry of these bytes, which may be none, with the index 0.
-fn add_plain(
-    alloc: Global,
-    names: &Names,
-    batch: &mut LogBatch,
-    group: u64,
-    words: &[&str],
-) -> Result<(), Unanswered> {
-    let [bytes] = words else {
-        return Err(Unanswered::BadLine);
-    };
-    let bytes = bytes_of(alloc, names, bytes)?;
+fn add_plain(alloc: Global, batch: &mut LogBatch, group: u64, bytes: Vec<u8>) -> Result<(), Fault> {
     let entries = vec![in alloc; Plain { bytes }]?;
-    Ok(batch.add_entries::<Plain>(group, &entries)?)
+    batch.add_entries::<Plain>(group, &entries)
 }
 
-fn put_plain(
-    alloc: Global,
-    names: &Names,
-    batch: &mut LogBatch,
-    group: u64,
-    words: &[&str],
-) -> Result<(), Unanswered> {
-    let [key, bytes] = words else {
-        return Err(Unanswered::BadLine);
-    };
-    let (key, bytes) = (bytes_of(alloc, names, key)?, bytes_of(alloc, names, bytes)?);
-    Ok(batch.put_message(group, key, &Plain { bytes })?)
+// What a line puts at a key.
+fn put(line: &mut Line, batch: &mut LogBatch, asked: KeyLine) -> Result<(), Fault> {
+    let (group, index) = line.pair(0);
+    let key = line.take(0);
+    let bytes = line.take(1);
+    match asked {
+        KeyLine::Put => batch.put(group, key, bytes),
+        KeyLine::Delete => batch.delete(group, key),
+        KeyLine::Message => batch.put_message(group, key, &TextEntry { index, word: bytes }),
+        KeyLine::PlainMessage => batch.put_message(group, key, &Plain { bytes }),
+    }
 }
 
-// What a line puts into the batch.
-fn change(
-    alloc: Global,
-    names: &Names,
-    batch: &mut LogBatch,
-    words: &[&str],
-) -> Result<(), Unanswered> {
-    let [verb, group, rest @ ..] = words else {
-        return Err(Unanswered::BadLine);
-    };
-    let group = number(group)?;
-    match *verb {
-        "put" => put(alloc, names, batch, group, rest),
-        "del" => delete(alloc, names, batch, group, rest),
-        "message" => put_message(alloc, names, batch, group, rest),
-        "ent" => add_entries(alloc, names, batch, group, rest),
-        "raw" => add_bytes(alloc, names, batch, group, rest),
-        "plain" => add_plain(alloc, names, batch, group, rest),
-        "plain-message" => put_plain(alloc, names, batch, group, rest),
-        "clean" if rest.is_empty() => Ok(batch.add_command(group, Command::Clean)?),
-        "compact" => {
-            let index = one(rest)?;
-            Ok(batch.add_command(group, Command::Compact { index })?)
-        }
-        _ => Err(Unanswered::BadLine),
+fn add(line: &mut Line, batch: &mut LogBatch, asked: EntriesLine) -> Result<(), Fault> {
+    let (alloc, group) = (line.alloc, line.number(0));
+    match asked {
+        EntriesLine::Texts => add_texts(alloc, batch, group, line.pair(1), line.bytes(0)),
+        EntriesLine::Raw => add_raw(alloc, batch, group, line.number(1), line.take(0)),
+        EntriesLine::Plain => add_plain(alloc, batch, group, line.take(0)),
     }
 }
 
@@ -207,23 +128,38 @@ impl Writing {
         }
     }
 
-    pub(crate) fn answer(
-        &mut self,
-        alloc: Global,
-        names: &Names,
-        words: &[&str],
-    ) -> Result<Answer, Unanswered> {
-        match words {
-            ["drop"] => *self = Writing::new(alloc),
-            ["next", flag @ ..] => {
-                let batch = mem::replace(&mut self.batch, LogBatch::new(alloc));
-                self.batches.push(batch)?;
-                self.syncs.push(matches!(flag, ["sync"]))?;
+    // The batch is the next one of a group, with or without a sync.
+    fn next(&mut self, alloc: Global, sync: bool) -> Result<(), Fault> {
+        let batch = mem::replace(&mut self.batch, LogBatch::new(alloc));
+        self.batches.push(batch)?;
+        self.syncs.push(sync)?;
+        Ok(())
+    }
+
+    fn set_flags(&mut self, alloc: Global, count: u64) -> Result<(), Fault> {
+        self.syncs = vec![in alloc; false; count as usize]?;
+        Ok(())
+    }
+
+    fn change(&mut self, line: &mut Line, asked: BatchLine) -> Result<(), Fault> {
+        let (group, index) = line.pair(0);
+        match asked {
+            BatchLine::Key(asked) => put(line, &mut self.batch, asked),
+            BatchLine::Entries(asked) => add(line, &mut self.batch, asked),
+            BatchLine::Clean => self.batch.add_command(group, Command::Clean),
+            BatchLine::Compact => self.batch.add_command(group, Command::Compact { index }),
+            BatchLine::Next(sync) => self.next(line.alloc, sync),
+            BatchLine::Flags => self.set_flags(line.alloc, group),
+            BatchLine::Drop => {
+                *self = Writing::new(line.alloc);
+                Ok(())
             }
-            ["flags", count] => self.syncs = vec![in alloc; false; number(count)? as usize]?,
-            _ => change(alloc, names, &mut self.batch, words)?,
         }
-        Ok(Answer::Done)
+    }
+
+    pub(crate) fn answer(&mut self, line: &mut Line, asked: BatchLine) {
+        let changed = self.change(line, asked);
+        line.done(changed);
     }
 
     /// Whether a batch is empty after it was written, and has its items after it was refused.

@@ -1,170 +1,100 @@
 //! Lines that write to an engine, purge it, or ask it what an operation does.
 
-use crate::answer::Unanswered;
-use crate::appends::Appends;
-use crate::batch::{Writing, add_raw};
-use crate::words::{Names, bound, bytes_of, number, one, two};
+use crate::appends::{Appends, write_each};
+use crate::asked::{CallLine, OpLine, WriteLine};
+use crate::batch::Writing;
+use crate::line::Line;
 use raft_env::FileSystem;
-use raft_records::{Fault, FileSeq, LogBatch};
+use raft_records::Fault;
 use raft_test_rows::{Engine, Op, Outcome, step};
-use std::alloc::Global;
+use std::alloc::{AllocError, Global};
 
-/// A call of an engine.
-#[derive(Drop)]
-pub(crate) enum Call {
-    /// Of the batch, synced where that is asked.
-    Write(bool),
-    /// .. once, by groups with a number each.
-    WriteOnce(Vec<(u64, u64)>, bool),
-    WriteGroup,
-    /// An entry with these bytes for each of some groups and indexes, in a batch of its own.
-    WriteEach((u64, u64), (u64, u64), Vec<u8>),
-    Append(Appends),
-    /// Of the Append queue's files up to one, what the groups from one on have, within a budget.
-    RewriteGroups(FileSeq, u64, u64),
-    RenewGroups(u64, u64),
-    /// Any other.
-    Op(Op),
-}
-
-// Groups with a number each.
-fn pairs_of(alloc: Global, words: &[&str]) -> Result<Vec<(u64, u64)>, Unanswered> {
+// Groups with a number each; none where a word is no number.
+fn pairs_of(alloc: Global, numbers: &[Option<u64>]) -> Result<Option<Vec<(u64, u64)>>, AllocError> {
     let mut pairs = Vec::new(alloc);
-    for pair in words.chunks(2) {
-        let [group, least] = pair else {
-            return Err(Unanswered::BadLine);
+    for pair in numbers.chunks(2) {
+        let [Some(group), Some(least)] = pair else {
+            return Ok(None);
         };
-        pairs.push((number(group)?, number(least)?))?;
+        pairs.push((*group, *least))?;
     }
-    Ok(pairs)
+    Ok(Some(pairs))
 }
 
-fn write_of(words: &[&str]) -> Result<Call, Unanswered> {
-    match words {
-        [] => Ok(Call::Write(false)),
-        ["sync"] => Ok(Call::Write(true)),
-        _ => Err(Unanswered::BadLine),
-    }
-}
-
-fn once_of(alloc: Global, words: &[&str]) -> Result<Call, Unanswered> {
-    match words {
-        [pairs @ .., "sync"] => Ok(Call::WriteOnce(pairs_of(alloc, pairs)?, true)),
-        _ => Ok(Call::WriteOnce(pairs_of(alloc, words)?, false)),
+// The numbers of a write that acts once, and whether no number, which is `sync`, follows them.
+fn once_of(line: &Line) -> (&[Option<u64>], bool) {
+    match line.numbers() {
+        [numbers @ .., None] => (numbers, true),
+        numbers => (numbers, false),
     }
 }
 
-fn each_of(alloc: Global, names: &Names, words: &[&str]) -> Result<Call, Unanswered> {
-    let [group, last_group, index, last, bytes] = words else {
-        return Err(Unanswered::BadLine);
-    };
-    let groups = (number(group)?, number(last_group)?);
-    let indexes = (number(index)?, number(last)?);
-    Ok(Call::WriteEach(groups, indexes, bytes_of(alloc, names, bytes)?))
-}
-
-fn append_of(words: &[&str]) -> Result<Call, Unanswered> {
-    match words {
-        [] => Ok(Call::Op(Op::RewriteAppend(None, None))),
-        [file, end] => Ok(Call::Op(Op::RewriteAppend(bound(file)?, bound(end)?))),
-        _ => Err(Unanswered::BadLine),
-    }
-}
-
-fn groups_of(words: &[&str]) -> Result<Call, Unanswered> {
-    let [file, from, budget] = words else {
-        return Err(Unanswered::BadLine);
-    };
-    let file = bound(file)?.unwrap_or(FileSeq::MAX);
-    Ok(Call::RewriteGroups(file, number(from)?, number(budget)?))
-}
-
-fn renewal_of(words: &[&str]) -> Result<Call, Unanswered> {
-    if words.is_empty() {
-        return Ok(Call::Op(Op::RewriteRewrite));
-    }
-    let (from, budget) = two(words)?;
-    Ok(Call::RenewGroups(from, budget))
-}
-
-fn rewrite_of(words: &[&str]) -> Result<Call, Unanswered> {
-    let [what, rest @ ..] = words else {
-        return Err(Unanswered::BadLine);
-    };
-    match *what {
-        "append" => append_of(rest),
-        "groups" => groups_of(rest),
-        "rewrite" => renewal_of(rest),
-        "stale" if rest.is_empty() => Ok(Call::Op(Op::PurgeStale)),
-        _ => Err(Unanswered::BadLine),
-    }
-}
-
-fn get_of(alloc: Global, names: &Names, words: &[&str]) -> Result<Op, Unanswered> {
-    let [group, key] = words else {
-        return Err(Unanswered::BadLine);
-    };
-    Ok(Op::Get(number(group)?, bytes_of(alloc, names, key)?))
-}
-
-fn op_of(verb: &str, words: &[&str]) -> Result<Op, Unanswered> {
-    match verb {
-        "sync" if words.is_empty() => Ok(Op::Sync),
-        "groups" if words.is_empty() => Ok(Op::Groups),
-        "purge" if words.is_empty() => Ok(Op::Purge),
-        "first" => Ok(Op::First(one(words)?)),
-        "last" => Ok(Op::Last(one(words)?)),
-        "compact-to" => {
-            let (group, index) = two(words)?;
-            Ok(Op::CompactTo(group, index))
+fn write_once<F: FileSystem>(
+    line: &mut Line,
+    writing: &mut Writing,
+    engine: &mut Engine<F>,
+) -> Outcome {
+    let (numbers, sync) = once_of(line);
+    match pairs_of(line.alloc, numbers) {
+        Ok(Some(pairs)) => Outcome::Size(engine.write_once(&mut writing.batch, &pairs, sync)),
+        Ok(None) => {
+            line.bad();
+            Outcome::Index(None)
         }
-        _ => Err(Unanswered::BadLine),
+        Err(error) => Outcome::Done(Err(Fault::from(error))),
     }
 }
 
-/// The call that a line asks for.
-pub(crate) fn call_of(alloc: Global, names: &Names, words: &[&str]) -> Result<Call, Unanswered> {
-    let [verb, rest @ ..] = words else {
-        return Err(Unanswered::BadLine);
-    };
-    match *verb {
-        "write" => write_of(rest),
-        "write-group" if rest.is_empty() => Ok(Call::WriteGroup),
-        "once" => once_of(alloc, rest),
-        "each" => each_of(alloc, names, rest),
-        "append" => Ok(Call::Append(Appends::read(alloc, names, rest)?)),
-        "rewrite" => rewrite_of(rest),
-        "get" => Ok(Call::Op(get_of(alloc, names, rest)?)),
-        _ => Ok(Call::Op(op_of(verb, rest)?)),
-    }
-}
-
-fn write_raw<F: FileSystem>(
-    alloc: Global,
+fn write<F: FileSystem>(
+    line: &mut Line,
+    writing: &mut Writing,
     engine: &mut Engine<F>,
-    group: u64,
-    index: u64,
-    bytes: &[u8],
-) -> Result<(), Fault> {
-    let mut batch = LogBatch::new(alloc);
-    add_raw(alloc, &mut batch, group, index, bytes.to_vec(alloc)?)?;
-    engine.write(&mut batch, false)?;
-    Ok(())
-}
-
-fn write_each<F: FileSystem>(
-    alloc: Global,
-    engine: &mut Engine<F>,
-    groups: (u64, u64),
-    indexes: (u64, u64),
-    bytes: &[u8],
-) -> Result<(), Fault> {
-    for group in groups.0..=groups.1 {
-        for index in indexes.0..=indexes.1 {
-            write_raw(alloc, engine, group, index, bytes)?;
+    asked: WriteLine,
+) -> Outcome {
+    let alloc = line.alloc;
+    match asked {
+        WriteLine::Batch(sync) => Outcome::Size(engine.write(&mut writing.batch, sync)),
+        WriteLine::Once => write_once(line, writing, engine),
+        WriteLine::Group => {
+            Outcome::Sizes(engine.write_group(&mut writing.batches, &writing.syncs))
+        }
+        WriteLine::Each => Outcome::Done(write_each(
+            alloc,
+            engine,
+            line.pair(0),
+            line.pair(2),
+            line.bytes(0),
+        )),
+        WriteLine::Append(is_each) => {
+            let appends = Appends {
+                groups: line.pair(0),
+                indexes: line.pair(2),
+                is_each,
+            };
+            Outcome::Done(appends.write(alloc, engine, line.bytes(0)))
         }
     }
-    Ok(())
+}
+
+fn op_of(line: &mut Line, asked: OpLine) -> Op {
+    let (first, second) = line.pair(0);
+    match asked {
+        OpLine::Sync => Op::Sync,
+        OpLine::Get => Op::Get(first, line.take(0)),
+        OpLine::CompactTo => Op::CompactTo(first, second),
+        OpLine::First => Op::First(first),
+        OpLine::Last => Op::Last(first),
+        OpLine::Groups => Op::Groups,
+        OpLine::RewriteAppend => Op::RewriteAppend(line.bound(0), line.bound(1)),
+        OpLine::RewriteRewrite => Op::RewriteRewrite,
+        OpLine::PurgeStale => Op::PurgeStale,
+        OpLine::Purge => Op::Purge,
+    }
+}
+
+fn done<F: FileSystem>(line: &mut Line, engine: &mut Engine<F>, asked: OpLine) -> Outcome {
+    let op = op_of(line, asked);
+    step(line.alloc, engine, &op)
 }
 
 // The group from which the next short call of a purge goes on.
@@ -175,31 +105,44 @@ fn goes_on(next: Result<Option<u64>, Fault>) -> Outcome {
     }
 }
 
-/// What a call comes to.
-pub(crate) fn outcome_of<F: FileSystem>(
-    alloc: Global,
-    engine: &mut Engine<F>,
+// What a call comes to.
+fn outcome_of<F: FileSystem>(
+    line: &mut Line,
     writing: &mut Writing,
-    call: &Call,
+    engine: &mut Engine<F>,
+    asked: CallLine,
 ) -> Outcome {
-    match call {
-        Call::Write(sync) => Outcome::Size(engine.write(&mut writing.batch, *sync)),
-        Call::WriteOnce(pairs, sync) => {
-            Outcome::Size(engine.write_once(&mut writing.batch, pairs, *sync))
+    let (from, budget) = line.pair(0);
+    match asked {
+        CallLine::Write(asked) => write(line, writing, engine, asked),
+        CallLine::RewriteGroups => {
+            let (file, (from, budget)) = (line.number(0), line.pair(1));
+            goes_on(engine.must_rewrite_append_groups(file, from, budget))
         }
-        Call::WriteGroup => {
-            Outcome::Sizes(engine.write_group(&mut writing.batches, &writing.syncs))
-        }
-        Call::WriteEach(groups, indexes, bytes) => {
-            Outcome::Done(write_each(alloc, engine, *groups, *indexes, bytes))
-        }
-        Call::Append(appends) => Outcome::Done(appends.write(alloc, engine)),
-        Call::RewriteGroups(file, from, budget) => {
-            goes_on(engine.must_rewrite_append_groups(*file, *from, *budget))
-        }
-        Call::RenewGroups(from, budget) => {
-            goes_on(engine.must_rewrite_rewrite_groups(*from, *budget))
-        }
-        Call::Op(op) => step(alloc, engine, op),
+        CallLine::RenewGroups => goes_on(engine.must_rewrite_rewrite_groups(from, budget)),
+        CallLine::Op(asked) => done(line, engine, asked),
     }
+}
+
+// Says what a call came to, if it left the batch as it should.
+fn tell(line: &mut Line, writing: &mut Writing, had_items: bool, outcome: &Outcome) {
+    if !writing.has_kept(had_items, outcome) {
+        return line.said.say("another batch");
+    }
+    if let Outcome::Sizes(_) = outcome {
+        *writing = Writing::new(line.alloc);
+    }
+    line.outcome(outcome);
+}
+
+/// Calls an engine, and says what that came to.
+pub(crate) fn answer<F: FileSystem>(
+    line: &mut Line,
+    writing: &mut Writing,
+    engine: &mut Engine<F>,
+    asked: CallLine,
+) {
+    let had_items = !writing.batch.is_empty();
+    let outcome = outcome_of(line, writing, engine, asked);
+    tell(line, writing, had_items, &outcome);
 }

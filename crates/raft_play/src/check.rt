@@ -9,10 +9,19 @@ use raft_test_rows::{Config, Engine, RecoveryMode};
 use std::alloc::{AllocError, Global};
 
 /// The files of both queues.
-#[derive(Drop)]
 struct Checked {
     append: QueueFiles,
     rewrite: QueueFiles,
+}
+
+// One call in a proof that drops it; derived, it would be one of each field (docs/DECISIONS.md).
+impl Drop for Checked {
+    fn drop(self) {
+        let Checked {
+            append: _append,
+            rewrite: _rewrite,
+        } = self;
+    }
 }
 
 fn check_both<F: FileSystem>(alloc: Global, files: &mut F) -> Result<Checked, Fault> {
@@ -67,14 +76,13 @@ fn is_as_long<F: FileSystem>(
 }
 
 // Whether each file of a queue is as long as planned; where the opening fails, none has changed.
-fn is_left<F: FileSystem>(
+fn are_left<F: FileSystem>(
     alloc: Global,
     files: &mut F,
     queue: &QueueFiles,
-    mode: RecoveryMode,
+    plan: &[Planned],
     opens: bool,
 ) -> Result<bool, Fault> {
-    let plan = queue.plan(alloc, mode)?;
     for (place, (file, check)) in queue.files.iter().zip(&queue.checks).enumerate() {
         let planned = match place.checked_sub(queue.passed) {
             Some(kept) if opens => plan.get(kept),
@@ -88,6 +96,30 @@ fn is_left<F: FileSystem>(
     Ok(true)
 }
 
+fn is_left<F: FileSystem>(
+    alloc: Global,
+    files: &mut F,
+    queue: &QueueFiles,
+    mode: RecoveryMode,
+    opens: bool,
+) -> Result<bool, Fault> {
+    let plan = queue.plan(alloc, mode)?;
+    are_left(alloc, files, queue, &plan, opens)
+}
+
+fn both_are_left<F: FileSystem>(
+    alloc: Global,
+    files: &mut F,
+    checked: &Checked,
+    mode: RecoveryMode,
+    opens: bool,
+) -> Result<bool, Fault> {
+    Ok(
+        is_left(alloc, files, &checked.append, mode, opens)?
+            && is_left(alloc, files, &checked.rewrite, mode, opens)?,
+    )
+}
+
 // Whether an opening fails just where that was told, and leaves the files as planned.
 fn agrees<F: FileSystem + Drop>(
     alloc: Global,
@@ -97,11 +129,10 @@ fn agrees<F: FileSystem + Drop>(
     fails: bool,
 ) -> Result<bool, Fault> {
     let (opens, mut left) = opened(alloc, config(alloc, mode)?, files);
-    Ok(
-        opens != fails
-            && is_left(alloc, &mut left, &checked.append, mode, opens)?
-            && is_left(alloc, &mut left, &checked.rewrite, mode, opens)?,
-    )
+    if opens == fails {
+        return Ok(false);
+    }
+    both_are_left(alloc, &mut left, checked, mode, opens)
 }
 
 fn told(alloc: Global, outlook: &Outlook) -> Result<String, AllocError> {
@@ -120,6 +151,20 @@ fn told(alloc: Global, outlook: &Outlook) -> Result<String, AllocError> {
     }
 }
 
+fn told_if_done<F: FileSystem + Drop>(
+    alloc: Global,
+    files: F,
+    checked: &Checked,
+    mode: RecoveryMode,
+) -> Result<String, Fault> {
+    let outlook = outlook_of(alloc, checked, mode)?;
+    Ok(if agrees(alloc, files, checked, mode, outlook.fails)? {
+        told(alloc, &outlook)?
+    } else {
+        String::from_str(alloc, "otherwise")?
+    })
+}
+
 /// What a check tells of an opening, if the opening then does it.
 pub(crate) fn outlook<F: FileSystem + Drop>(
     alloc: Global,
@@ -127,11 +172,8 @@ pub(crate) fn outlook<F: FileSystem + Drop>(
     mode: RecoveryMode,
 ) -> Result<String, Fault> {
     let mut files = files;
-    let checked = check_both(alloc, &mut files)?;
-    let outlook = outlook_of(alloc, &checked, mode)?;
-    Ok(if agrees(alloc, files, &checked, mode, outlook.fails)? {
-        told(alloc, &outlook)?
-    } else {
-        String::from_str(alloc, "otherwise")?
-    })
+    match check_both(alloc, &mut files) {
+        Ok(checked) => told_if_done(alloc, files, &checked, mode),
+        Err(fault) => Err(fault),
+    }
 }

@@ -1,110 +1,123 @@
 //! The items of log files as text.
 
-use crate::answer::{Answer, Unanswered};
-use crate::words::Spelled;
+use crate::asked::ItemsLine;
+use crate::line::Line;
+use crate::said::Said;
 use raft_dump::{LogItemReader, dump_with_file_system};
 use raft_env::FileSystem;
 use raft_records::{Command, EntryIndex, Fault, KeyValue, LogItem, LogItemContent};
-use std::alloc::{AllocError, Global};
-use std::fmt;
+use std::alloc::Global;
 
-/// An item, with its group. An entry is its index and length, or also its place.
-#[derive(Clone, Copy)]
-struct Item<'a> {
-    item: &'a LogItem,
-    has_places: bool,
-}
-
-impl fmt::Display for Item<'_> {
-    fn fmt<W: fmt::Write>(&self, f: &mut fmt::Formatter<W>) -> fmt::Result {
-        let group = self.item.raft_group_id;
-        match &self.item.content {
+impl Said {
+    // An item, with its group. An entry is its index and length, or also its place.
+    fn item(&mut self, item: &LogItem, has_places: bool) {
+        let group = item.raft_group_id;
+        match &item.content {
             LogItemContent::EntryIndexes(entries) => {
-                write!(f, " ent {group}")?;
-                if self.has_places {
-                    write_places(f, entries)
-                } else {
-                    write_entries(f, entries)
-                }
+                self.with(" ent ", group);
+                self.entries(entries, has_places);
             }
-            LogItemContent::Command(Command::Clean) => write!(f, " clean {group}"),
-            LogItemContent::Command(Command::Compact { index }) => {
-                write!(f, " compact {group} {index}")
-            }
-            LogItemContent::Kv(KeyValue::Put { key, value }) => {
-                let (key, value) = (Spelled(key), Spelled(value));
-                write!(f, " put {group} {key} {value}")
-            }
-            LogItemContent::Kv(KeyValue::Delete { key }) => {
-                let key = Spelled(key);
-                write!(f, " del {group} {key}")
+            LogItemContent::Command(command) => self.command(group, command),
+            LogItemContent::Kv(pair) => self.key_value(group, pair),
+        }
+    }
+
+    fn command(&mut self, group: u64, command: &Command) {
+        match command {
+            Command::Clean => self.with(" clean ", group),
+            Command::Compact { index } => {
+                self.with(" compact ", group);
+                self.with(" ", *index);
             }
         }
     }
-}
 
-// Each index with the length of the entry's bytes.
-fn write_entries<W: fmt::Write>(f: &mut fmt::Formatter<W>, entries: &[EntryIndex]) -> fmt::Result {
-    for entry in entries {
-        let (index, len) = (entry.index, entry.entry_len);
-        write!(f, " {index}:{len}")?;
+    fn key_value(&mut self, group: u64, pair: &KeyValue) {
+        match pair {
+            KeyValue::Put { key, value } => {
+                self.with(" put ", group);
+                self.spell(" ", key);
+                self.spell(" ", value);
+            }
+            KeyValue::Delete { key } => {
+                self.with(" del ", group);
+                self.spell(" ", key);
+            }
+        }
     }
-    Ok(())
-}
 
-// Each index with where its block begins in the file, the offset in the block, and the length.
-fn write_places<W: fmt::Write>(f: &mut fmt::Formatter<W>, entries: &[EntryIndex]) -> fmt::Result {
-    for entry in entries {
-        let (index, offset, len) = (entry.index, entry.entry_offset, entry.entry_len);
+    fn entries(&mut self, entries: &[EntryIndex], has_places: bool) {
+        for entry in entries {
+            self.with(" ", entry.index);
+            if has_places {
+                self.place(entry);
+            } else {
+                self.with(":", u64::from(entry.entry_len));
+            }
+        }
+    }
+
+    // Where an entry's block begins in the file, the offset in the block, and the length.
+    fn place(&mut self, entry: &EntryIndex) {
         match entry.entries {
             Some(block) => {
-                let begin = block.offset;
-                write!(f, " {index}:{begin}+{offset}+{len}")?
+                self.with(":", block.offset);
+                self.with("+", u64::from(entry.entry_offset));
+                self.with("+", u64::from(entry.entry_len));
             }
-            None => write!(f, " {index}:nowhere")?,
+            None => self.say(":nowhere"),
         }
     }
-    Ok(())
-}
 
-fn add(
-    alloc: Global,
-    text: &mut String,
-    item: &LogItem,
-    has_places: bool,
-) -> Result<(), AllocError> {
-    let item = Item { item, has_places };
-    let text_of_item = format!(in alloc; "{item}")?;
-    text.push_str(text_of_item.as_str())
+    fn next_item(&mut self, next: Result<LogItem, Fault>, has_places: bool) -> Result<(), Fault> {
+        match next {
+            Ok(item) => {
+                self.item(&item, has_places);
+                Ok(())
+            }
+            Err(fault) => Err(fault),
+        }
+    }
 }
 
 fn reader_at<F: FileSystem>(
     alloc: Global,
     files: &mut F,
-    verb: &str,
     path: &str,
+    asked: ItemsLine,
 ) -> Result<LogItemReader<F>, Fault> {
-    match verb {
-        "file-items" => LogItemReader::new_file_reader(alloc, files, path),
-        "folder-items" => LogItemReader::new_directory_reader(alloc, files, path),
+    match asked {
+        ItemsLine::File => LogItemReader::new_file_reader(alloc, files, path),
+        ItemsLine::Folder => LogItemReader::new_directory_reader(alloc, files, path),
         _ => dump_with_file_system(alloc, path, files),
     }
 }
 
-/// All items of a log file, or of those in a folder, one after another.
-pub(crate) fn items_at<F: FileSystem>(
-    alloc: Global,
+fn add_items<F: FileSystem>(
+    said: &mut Said,
     files: &mut F,
-    verb: &str,
-    path: &str,
-) -> Result<Answer, Unanswered> {
-    let mut text = String::from_str(alloc, "items")?;
-    let mut items = reader_at(alloc, files, verb, path)?;
+    items: &mut LogItemReader<F>,
+    has_places: bool,
+) -> Result<(), Fault> {
     for _ in 0..u64::MAX {
         match items.next(files) {
-            Some(item) => add(alloc, &mut text, &item?, verb == "places")?,
+            Some(next) => said.next_item(next, has_places)?,
             None => break,
         }
     }
-    Ok(Answer::Text(text))
+    Ok(())
+}
+
+fn items_at<F: FileSystem>(line: &mut Line, files: &mut F, asked: ItemsLine) -> Result<(), Fault> {
+    let mut items = reader_at(line.alloc, files, line.text(0), asked)?;
+    let has_places = matches!(asked, ItemsLine::Places);
+    add_items(&mut line.said, files, &mut items, has_places)
+}
+
+/// Says all items of a log file, or of those in a folder, one after another.
+pub(crate) fn say_items<F: FileSystem>(line: &mut Line, files: &mut F, asked: ItemsLine) {
+    line.said.say("items");
+    if let Err(fault) = items_at(line, files, asked) {
+        line.refuse(fault);
+    }
 }

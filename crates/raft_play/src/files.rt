@@ -1,11 +1,12 @@
 //! Lines on files in memory, which no engine has.
 
-use crate::answer::{Answer, Unanswered};
+use crate::asked::{ChangeLine, CountLine, FilesLine, UpsetLine};
 use crate::check::outlook;
-use crate::dump::items_at;
-use crate::words::{Names, bytes_of, number};
+use crate::dump::say_items;
+use crate::line::Line;
 use raft_env::{FileSystem, FsFault, Permission};
 use raft_fork::fork;
+use raft_records::Fault;
 use raft_test_rows::{Config, Faulty, Left, RecoveryMode};
 use std::alloc::{AllocError, Global};
 
@@ -32,11 +33,19 @@ fn read<F: FileSystem>(
     read
 }
 
+fn room_for<F: FileSystem>(
+    alloc: Global,
+    files: &mut F,
+    handle: &F::Handle,
+) -> Result<Vec<u8>, FsFault> {
+    let size = files.file_size(handle)?;
+    Ok(vec![in alloc; 0; size]?)
+}
+
 // The bytes of a file.
 fn bytes_at<F: FileSystem>(alloc: Global, files: &mut F, path: &str) -> Result<Vec<u8>, FsFault> {
     let handle = files.open(path, Permission::ReadOnly)?;
-    let size = files.file_size(&handle)?;
-    let mut bytes = vec![in alloc; 0; size]?;
+    let mut bytes = room_for(alloc, files, &handle)?;
     let len = read(files, &handle, &mut bytes)?;
     bytes.truncate(len);
     Ok(bytes)
@@ -58,28 +67,12 @@ fn cut<F: FileSystem>(files: &mut F, path: &str, len: u64) -> Result<(), FsFault
     files.truncate(&mut writer, len as usize)
 }
 
-pub(crate) fn mode_of(word: &str) -> Result<RecoveryMode, Unanswered> {
+fn mode_of(word: &str) -> Option<RecoveryMode> {
     match word {
-        "absolute" => Ok(RecoveryMode::AbsoluteConsistency),
-        "tail" => Ok(RecoveryMode::TolerateTailCorruption),
-        "any" => Ok(RecoveryMode::TolerateAnyCorruption),
-        _ => Err(Unanswered::BadLine),
-    }
-}
-
-fn byte(word: &str) -> Result<u8, Unanswered> {
-    match u8::try_from(number(word)?) {
-        Ok(byte) => Ok(byte),
-        Err(_) => Err(Unanswered::BadLine),
-    }
-}
-
-fn left_of(words: &[&str]) -> Result<Left, Unanswered> {
-    match words {
-        ["all"] => Ok(Left::All),
-        ["synced"] => Ok(Left::Synced),
-        ["torn", kept, fill] => Ok(Left::Torn(number(kept)? as usize, byte(fill)?)),
-        _ => Err(Unanswered::BadLine),
+        "absolute" => Some(RecoveryMode::AbsoluteConsistency),
+        "tail" => Some(RecoveryMode::TolerateTailCorruption),
+        "any" => Some(RecoveryMode::TolerateAnyCorruption),
+        _ => None,
     }
 }
 
@@ -94,152 +87,101 @@ fn count_logs(names: &[String]) -> u64 {
     count
 }
 
-fn add_paths(text: &mut String, front: &str, paths: &[String]) -> Result<(), AllocError> {
-    for path in paths {
-        text.push_str(front)?;
-        text.push_str(path.as_str())?;
-    }
-    Ok(())
-}
-
 // The paths of the copies, and of links, of which a fork makes none.
-fn forked<F: FileSystem>(
-    alloc: Global,
-    config: &Config,
-    files: &mut F,
-    target: &str,
-) -> Result<Answer, Unanswered> {
-    let details = fork(alloc, config, files, target)?;
-    let mut text = String::from_str(alloc, "copied")?;
-    add_paths(&mut text, " ", &details.copied)?;
-    add_paths(&mut text, " linked ", &details.symlinked)?;
-    Ok(Answer::Text(text))
-}
-
-fn answer_store<F: FileSystem>(
-    alloc: Global,
-    names: &Names,
-    files: &mut F,
-    words: &[&str],
-) -> Result<Answer, Unanswered> {
-    let [path, bytes] = words else {
-        return Err(Unanswered::BadLine);
-    };
-    store(files, path, &bytes_of(alloc, names, bytes)?)?;
-    Ok(Answer::Done)
-}
-
-fn answer_has<F: FileSystem>(
-    alloc: Global,
-    names: &Names,
-    files: &mut F,
-    words: &[&str],
-) -> Result<Answer, Unanswered> {
-    let [path, bytes] = words else {
-        return Err(Unanswered::BadLine);
-    };
-    let wanted = bytes_of(alloc, names, bytes)?;
-    let found = bytes_at(alloc, files, path)?;
-    Ok(Answer::Is(found.as_slice() == wanted.as_slice()))
-}
-
-// What a line with a path and a number does to the file.
-fn answer_changed<F: FileSystem>(
-    alloc: Global,
-    files: &mut F,
-    verb: &str,
-    words: &[&str],
-) -> Result<Answer, Unanswered> {
-    let [path, count] = words else {
-        return Err(Unanswered::BadLine);
-    };
-    match verb {
-        "shift" => shift(alloc, files, path, byte(count)?)?,
-        _ => cut(files, path, number(count)?)?,
+fn say_fork<F: FileSystem>(line: &mut Line, config: &Config, files: &mut F) {
+    match fork(line.alloc, config, files, line.text(0)) {
+        Ok(details) => {
+            line.said.say("copied");
+            line.said.paths(" ", &details.copied);
+            line.said.paths(" linked ", &details.symlinked);
+        }
+        Err(fault) => line.refuse(fault),
     }
-    Ok(Answer::Done)
 }
 
-fn answer_free<F: Faulty>(files: &mut F, words: &[&str]) -> Result<Answer, Unanswered> {
-    let [path, bytes] = words else {
-        return Err(Unanswered::BadLine);
-    };
-    files.free_to(path, number(bytes)?)?;
-    Ok(Answer::Done)
-}
-
-fn answer_crash<F: Faulty>(
-    alloc: Global,
-    files: &mut F,
-    words: &[&str],
-) -> Result<Answer, Unanswered> {
-    files.crash_to(alloc, &left_of(words)?)?;
-    Ok(Answer::Done)
-}
-
-fn agree<F: Faulty>(alloc: Global, files: &mut F, mode: &str) -> Result<Answer, Unanswered> {
+// What a check tells of an opening of a copy.
+fn told<F: Faulty>(alloc: Global, files: &F, mode: RecoveryMode) -> Result<String, Fault> {
     let copy = files.copied(alloc)?;
-    Ok(Answer::Text(outlook(alloc, copy, mode_of(mode)?)?))
+    outlook(alloc, copy, mode)
 }
 
-// What a line changes at one path.
-fn change_at<F: Faulty>(files: &mut F, verb: &str, path: &str) -> Result<Answer, Unanswered> {
-    match verb {
-        "folder" => files.make_dir(path)?,
-        "note" => files.note(path)?,
-        _ => return Err(Unanswered::BadLine),
-    }
-    Ok(Answer::Done)
-}
-
-// What stands at one path.
-fn look_at<F: Faulty>(files: &mut F, verb: &str, path: &str) -> Result<Answer, Unanswered> {
-    match verb {
-        "is-folder" => Ok(Answer::Is(files.is_dir(path))),
-        "metadata" => Ok(Answer::Is(files.exists_metadata(path))),
-        "length" => Ok(Answer::Number(length(files, path)? as u64)),
-        "files" => Ok(Answer::Number(files.list(path)?.len() as u64)),
-        "logs" => Ok(Answer::Number(count_logs(&files.list(path)?))),
-        _ => change_at(files, verb, path),
-    }
-}
-
-// What a line with one more word asks for.
-fn answer_at<F: Faulty>(
-    alloc: Global,
-    config: &Config,
-    files: &mut F,
-    verb: &str,
-    words: &[&str],
-) -> Result<Answer, Unanswered> {
-    let [word] = words else {
-        return Err(Unanswered::BadLine);
+fn agree<F: Faulty>(line: &mut Line, files: &F) {
+    let Some(mode) = mode_of(line.text(0)) else {
+        return line.bad();
     };
-    match verb {
-        "fork" => forked(alloc, config, files, word),
-        "agree" => agree(alloc, files, word),
-        "items" | "file-items" | "folder-items" | "places" => items_at(alloc, files, verb, word),
-        _ => look_at(files, verb, word),
+    match told(line.alloc, files, mode) {
+        Ok(text) => line.said.say(text.as_str()),
+        Err(fault) => line.refuse(fault),
+    }
+}
+
+// What a line changes as a log does.
+fn change<F: FileSystem>(line: &mut Line, files: &mut F, asked: ChangeLine) {
+    let (alloc, path) = (line.alloc, line.text(0));
+    let done = match asked {
+        ChangeLine::Folder => files.make_dir(path),
+        ChangeLine::Store => store(files, path, line.bytes(0)),
+        ChangeLine::Shift => shift(alloc, files, path, line.byte(0)),
+        ChangeLine::Cut => cut(files, path, line.number(0)),
+    };
+    line.done_by_files(done);
+}
+
+// What a line changes from outside.
+fn upset<F: Faulty>(line: &mut Line, files: &mut F, asked: UpsetLine) {
+    let (alloc, path, count) = (line.alloc, line.text(0), line.number(0));
+    let done = match asked {
+        UpsetLine::Note => files.note(path),
+        UpsetLine::Free => files.free_to(path, count),
+        UpsetLine::CrashAll => files.crash_to(alloc, &Left::All),
+        UpsetLine::CrashSynced => files.crash_to(alloc, &Left::Synced),
+        UpsetLine::CrashTorn => { files.crash_to(alloc, &Left::Torn(count as usize, line.byte(1))) }
+    };
+    line.done(done);
+}
+
+fn has<F: FileSystem>(line: &mut Line, files: &mut F) {
+    match bytes_at(line.alloc, files, line.text(0)) {
+        Ok(found) => {
+            let has = found.as_slice() == line.bytes(0);
+            line.said.whether(has);
+        }
+        Err(fault) => line.refuse_files(fault),
+    }
+}
+
+fn counted<F: FileSystem>(files: &mut F, path: &str, asked: CountLine) -> Result<u64, FsFault> {
+    match asked {
+        CountLine::Bytes => Ok(length(files, path)? as u64),
+        CountLine::Files => Ok(files.list(path)?.len() as u64),
+        CountLine::Logs => Ok(count_logs(&files.list(path)?)),
+    }
+}
+
+fn count<F: FileSystem>(line: &mut Line, files: &mut F, asked: CountLine) {
+    match counted(files, line.text(0), asked) {
+        Ok(count) => line.said.number(count),
+        Err(fault) => line.refuse_files(fault),
     }
 }
 
 /// What files answer, where these are the settings.
-pub(crate) fn answer<F: Faulty>(
-    alloc: Global,
-    names: &Names,
-    config: &Config,
-    files: &mut F,
-    words: &[&str],
-) -> Result<Answer, Unanswered> {
-    let [verb, rest @ ..] = words else {
-        return Err(Unanswered::BadLine);
-    };
-    match *verb {
-        "store" => answer_store(alloc, names, files, rest),
-        "has" => answer_has(alloc, names, files, rest),
-        "shift" | "cut" => answer_changed(alloc, files, verb, rest),
-        "free" => answer_free(files, rest),
-        "crash" => answer_crash(alloc, files, rest),
-        _ => answer_at(alloc, config, files, verb, rest),
+pub(crate) fn answer<F: Faulty>(line: &mut Line, config: &Config, files: &mut F, asked: FilesLine) {
+    match asked {
+        FilesLine::Change(asked) => change(line, files, asked),
+        FilesLine::Upset(asked) => upset(line, files, asked),
+        FilesLine::Count(asked) => count(line, files, asked),
+        FilesLine::Items(asked) => say_items(line, files, asked),
+        FilesLine::Has => has(line, files),
+        FilesLine::IsFolder => {
+            let is = files.is_dir(line.text(0));
+            line.said.whether(is);
+        }
+        FilesLine::Metadata => {
+            let is = files.exists_metadata(line.text(0));
+            line.said.whether(is);
+        }
+        FilesLine::Fork => say_fork(line, config, files),
+        FilesLine::Agree => agree(line, files),
     }
 }

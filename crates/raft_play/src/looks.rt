@@ -1,116 +1,84 @@
 //! Lines that ask an engine for what it holds.
 
-use crate::answer::{Answer, Unanswered};
 use crate::appends::whole;
+use crate::asked::{EntryLine, LookLine, WholeLine};
+use crate::line::Line;
 use crate::plain::Plain;
-use crate::words::{Names, Spelled, bound, bytes_of, number, one, two};
+use crate::said::Said;
 use raft_env::FileSystem;
 use raft_records::{Fault, LogQueue, Message};
-use raft_test_rows::{Engine, Outcome, TextEntry, state_of};
+use raft_test_rows::{Engine, TextEntry, state_of};
 use std::alloc::{AllocError, Global};
 
-/// The keys and values that a scan hands over, as far as there is memory.
+/// The keys and values that a scan hands over, until there are so many.
 #[derive(Drop)]
 struct Handed {
-    alloc: Global,
-    text: String,
+    said: Said,
     count: u64,
     most: u64,
-    is_whole: bool,
 }
 
 impl Handed {
-    fn new(alloc: Global, most: u64) -> Result<Handed, AllocError> {
-        Ok(Handed {
-            alloc,
-            text: String::from_str(alloc, "pairs")?,
+    fn new(alloc: Global, most: u64) -> Handed {
+        Handed {
+            said: Said::new(alloc),
             count: 0,
             most,
-            is_whole: true,
-        })
-    }
-
-    fn add(&mut self, key: &[u8], value: &[u8]) -> Result<(), AllocError> {
-        let key = Spelled(key);
-        let value = Spelled(value);
-        let pair = format!(in self.alloc; " {key} {value}")?;
-        self.text.push_str(pair.as_str())
+        }
     }
 
     // Whether more is to be handed over.
     fn takes(&mut self, key: &[u8], value: &[u8]) -> bool {
-        self.is_whole = self.is_whole && self.add(key, value).is_ok();
+        self.said.spell(" ", key);
+        self.said.spell(" ", value);
         self.count = self.count.saturating_add(1);
         self.count < self.most
     }
 
-    fn answer(self) -> Result<Answer, Unanswered> {
-        if self.is_whole {
-            Ok(Answer::Text(self.text))
-        } else {
-            Err(Unanswered::MEMORY)
+    fn end(self, line: &mut Line, scanned: Result<(), Fault>) {
+        match scanned {
+            Ok(()) => {
+                line.said.say("pairs");
+                line.said.add(&self.said);
+            }
+            Err(fault) => line.refuse(fault),
         }
     }
 }
 
-// A bound of a scan, or none for `-`.
-fn key_bound(alloc: Global, names: &Names, word: &str) -> Result<Option<Vec<u8>>, Unanswered> {
-    match word {
-        "-" => Ok(None),
-        _ => Ok(Some(bytes_of(alloc, names, word)?)),
-    }
-}
-
 // The pairs of a group from one key up to another, in order or backwards, until there are so many.
-fn scanned<F: FileSystem>(
-    alloc: Global,
-    names: &Names,
-    engine: &Engine<F>,
-    words: &[&str],
-) -> Result<Answer, Unanswered> {
-    let [group, start, end, how @ .., most] = words else {
-        return Err(Unanswered::BadLine);
-    };
-    let reverse = match how {
-        ["most"] => false,
-        ["back", "most"] => true,
-        _ => return Err(Unanswered::BadLine),
-    };
-    let (group, most) = (number(group)?, number(most)?);
-    let start = key_bound(alloc, names, start)?;
-    let end = key_bound(alloc, names, end)?;
-    let mut handed = Handed::new(alloc, most)?;
-    engine.scan_raw_messages(
+fn scan<F: FileSystem>(line: &mut Line, engine: &Engine<F>, reverse: bool) {
+    let (group, most) = line.pair(0);
+    let (start, end) = (line.take_key(0), line.take_key(1));
+    let mut handed = Handed::new(line.alloc, most);
+    let scanned = engine.scan_raw_messages(
         group,
         start.as_deref(),
         end.as_deref(),
         reverse,
         &mut |key: &[u8], value: &[u8]| handed.takes(key, value),
-    )?;
-    handed.answer()
+    );
+    handed.end(line, scanned);
 }
 
 // The keys of a group with the words of their messages, at most so many, in order or backwards.
-fn messages<F: FileSystem>(
-    alloc: Global,
-    engine: &Engine<F>,
-    words: &[&str],
-) -> Result<Answer, Unanswered> {
-    let (group, reverse, most) = match words {
-        [group] => (number(group)?, false, u64::MAX),
-        [group, "most", most] => (number(group)?, false, number(most)?),
-        [group, "back", "most", most] => (number(group)?, true, number(most)?),
-        _ => return Err(Unanswered::BadLine),
-    };
-    let mut handed = Handed::new(alloc, most)?;
-    engine.scan_messages::<TextEntry, _>(
+fn messages<F: FileSystem>(line: &mut Line, engine: &Engine<F>, reverse: bool) {
+    let (group, most) = line.pair(0);
+    let mut handed = Handed::new(line.alloc, most);
+    let scanned = engine.scan_messages::<TextEntry, _>(
         group,
         None,
         None,
         reverse,
         &mut |key: &[u8], entry: TextEntry| handed.takes(key, &entry.word),
-    )?;
-    handed.answer()
+    );
+    handed.end(line, scanned);
+}
+
+fn bytes_of(alloc: Global, entry: &TextEntry) -> Result<Vec<u8>, AllocError> {
+    let mut bytes = Vec::new(alloc);
+    entry.to_bytes(&mut bytes)?;
+    Ok(bytes)
 }
 
 /// Whether the bytes that an engine lends of an entry are those of the one that it copied.
@@ -120,13 +88,12 @@ pub(crate) fn lends<F: FileSystem>(
     group: u64,
     index: u64,
     copied: Option<&TextEntry>,
-) -> Result<bool, Unanswered> {
+) -> Result<bool, Fault> {
     let place = engine.load_entry(group, index)?;
     let (Some(place), Some(entry)) = (place, copied) else {
         return Ok(place.is_none() && copied.is_none());
     };
-    let mut bytes = Vec::new(alloc);
-    entry.to_bytes(&mut bytes)?;
+    let bytes = bytes_of(alloc, entry)?;
     Ok(engine.loaded(place) == bytes.as_slice())
 }
 
@@ -135,7 +102,7 @@ fn each_is_lent<F: FileSystem>(
     engine: &mut Engine<F>,
     group: u64,
     entries: &[TextEntry],
-) -> Result<bool, Unanswered> {
+) -> Result<bool, Fault> {
     for entry in entries {
         if !lends(alloc, engine, group, entry.index, Some(entry))? {
             return Ok(false);
@@ -144,143 +111,101 @@ fn each_is_lent<F: FileSystem>(
     Ok(true)
 }
 
-fn lent_differs(alloc: Global) -> Result<Answer, Unanswered> {
-    Ok(Answer::Text(String::from_str(alloc, "lent differs")?))
-}
-
 // An entry, which is also lent.
-fn entry_at<F: FileSystem>(
-    alloc: Global,
-    engine: &mut Engine<F>,
-    words: &[&str],
-) -> Result<Answer, Unanswered> {
-    let (group, index) = two(words)?;
+fn entry_at<F: FileSystem>(line: &mut Line, engine: &mut Engine<F>) -> Result<(), Fault> {
+    let (group, index) = line.pair(0);
     let copied = engine.get_entry::<TextEntry>(group, index)?;
-    if lends(alloc, engine, group, index, copied.as_ref())? {
-        Ok(Answer::Outcome(Outcome::Entry(Ok(copied))))
+    if lends(line.alloc, engine, group, index, copied.as_ref())? {
+        line.said.text_entry(copied.as_ref());
     } else {
-        lent_differs(alloc)
+        line.said.say("lent differs");
     }
+    Ok(())
 }
 
 // What a fetch answers, and how many entries it hands over. Each of them is also lent.
-fn fetched<F: FileSystem>(
-    alloc: Global,
-    engine: &mut Engine<F>,
-    words: &[&str],
-) -> Result<Answer, Unanswered> {
-    let [group, begin, end, most] = words else {
-        return Err(Unanswered::BadLine);
-    };
-    let (group, begin, end) = (number(group)?, number(begin)?, number(end)?);
-    let most = match bound(most)? {
-        Some(most) => Some(most as usize),
-        None => None,
-    };
-    let mut entries: Vec<TextEntry> = Vec::new(alloc);
+fn fetch<F: FileSystem>(line: &mut Line, engine: &mut Engine<F>) -> Result<(), Fault> {
+    let group = line.number(0);
+    let (begin, end) = line.pair(1);
+    let most = line.bound(3).map(|most| most as usize);
+    let mut entries: Vec<TextEntry> = Vec::new(line.alloc);
     let count = engine.fetch_entries_to::<TextEntry>(group, begin, end, most, &mut entries)?;
-    if each_is_lent(alloc, engine, group, &entries)? {
-        Ok(Answer::Pair(count as u64, entries.len() as u64))
+    if each_is_lent(line.alloc, engine, group, &entries)? {
+        line.said.pair(count as u64, entries.len() as u64);
     } else {
-        lent_differs(alloc)
+        line.said.say("lent differs");
+    }
+    Ok(())
+}
+
+fn message_at<F: FileSystem>(line: &mut Line, engine: &Engine<F>) -> Result<(), Fault> {
+    let message = engine.get_message::<TextEntry>(line.number(0), line.bytes(0))?;
+    line.said.text_entry(message.as_ref());
+    Ok(())
+}
+
+// A message of any bytes.
+fn plain(said: &mut Said, message: Option<&Plain>) {
+    match message {
+        Some(message) => said.spell("value ", &message.bytes),
+        None => said.say("none"),
     }
 }
 
-fn message_at<F: FileSystem>(
-    alloc: Global,
-    names: &Names,
-    engine: &mut Engine<F>,
-    words: &[&str],
-) -> Result<Answer, Unanswered> {
-    let [group, key] = words else {
-        return Err(Unanswered::BadLine);
-    };
-    let group = number(group)?;
-    let key = bytes_of(alloc, names, key)?;
-    let message = engine.get_message::<TextEntry>(group, &key);
-    Ok(Answer::Outcome(Outcome::Entry(message)))
+fn plain_entry<F: FileSystem>(line: &mut Line, engine: &mut Engine<F>) -> Result<(), Fault> {
+    let entry = engine.get_entry::<Plain>(line.number(0), 0)?;
+    plain(&mut line.said, entry.as_ref());
+    Ok(())
 }
 
-fn span_of<F: FileSystem>(engine: &Engine<F>, words: &[&str]) -> Result<Answer, Unanswered> {
+fn plain_message<F: FileSystem>(line: &mut Line, engine: &Engine<F>) -> Result<(), Fault> {
+    let message = engine.get_message::<Plain>(line.number(0), line.bytes(0))?;
+    plain(&mut line.said, message.as_ref());
+    Ok(())
+}
+
+fn found<F: FileSystem>(line: &mut Line, engine: &mut Engine<F>) {
+    match engine.image() {
+        Ok(image) => line.said.state(&state_of(&image)),
+        Err(fault) => line.refuse(fault),
+    }
+}
+
+fn entry<F: FileSystem>(line: &mut Line, engine: &mut Engine<F>, asked: EntryLine) {
+    let looked = match asked {
+        EntryLine::Entry => entry_at(line, engine),
+        EntryLine::Fetch => fetch(line, engine),
+        EntryLine::Whole => whole(line, engine),
+        EntryLine::Message => message_at(line, engine),
+        EntryLine::PlainEntry => plain_entry(line, engine),
+        EntryLine::PlainMessage => plain_message(line, engine),
+    };
+    if let Err(fault) = looked {
+        line.refuse(fault);
+    }
+}
+
+fn of_whole<F: FileSystem>(said: &mut Said, engine: &Engine<F>, asked: WholeLine) {
     let spans = engine.file_spans();
-    let (first, last) = match words {
-        ["append"] => spans.append,
-        ["rewrite"] => spans.rewrite,
-        _ => return Err(Unanswered::BadLine),
-    };
-    Ok(Answer::Pair(first, last))
-}
-
-fn bytes_in(message: Result<Option<Plain>, Fault>) -> Answer {
-    Answer::Outcome(Outcome::Value(match message {
-        Ok(Some(Plain { bytes })) => Ok(Some(bytes)),
-        Ok(None) => Ok(None),
-        Err(fault) => Err(fault),
-    }))
-}
-
-// The message of any bytes at a key.
-fn plain_message<F: FileSystem>(
-    alloc: Global,
-    names: &Names,
-    engine: &Engine<F>,
-    words: &[&str],
-) -> Result<Answer, Unanswered> {
-    let [group, key] = words else {
-        return Err(Unanswered::BadLine);
-    };
-    let group = number(group)?;
-    let key = bytes_of(alloc, names, key)?;
-    Ok(bytes_in(engine.get_message::<Plain>(group, &key)))
-}
-
-// Whether a queue is to be rewritten by its size.
-fn needs<F: FileSystem>(engine: &Engine<F>, words: &[&str]) -> Result<Answer, Unanswered> {
-    let queue = match words {
-        ["append"] => LogQueue::Append,
-        ["rewrite"] => LogQueue::Rewrite,
-        _ => return Err(Unanswered::BadLine),
-    };
-    Ok(Answer::Is(engine.needs_rewrite_log_files(queue)))
-}
-
-// What an engine answers to one word.
-fn answer_whole<F: FileSystem>(
-    alloc: Global,
-    engine: &mut Engine<F>,
-    words: &[&str],
-) -> Result<Answer, Unanswered> {
-    match words {
-        ["found"] => Ok(Answer::Found(state_of(&engine.image()?))),
-        ["empty"] => Ok(Answer::Is(engine.is_empty())),
-        ["failed"] => Ok(Answer::Is(engine.failed())),
-        ["used"] => Ok(Answer::Number(engine.get_used_size() as u64)),
-        ["path"] => Ok(Answer::Text(String::from_str(alloc, engine.path())?)),
-        _ => Err(Unanswered::BadLine),
+    match asked {
+        WholeLine::IsEmpty => said.whether(engine.is_empty()),
+        WholeLine::HasFailed => said.whether(engine.failed()),
+        WholeLine::Used => said.number(engine.get_used_size() as u64),
+        WholeLine::Path => said.say(engine.path()),
+        WholeLine::NeedsAppend => said.whether(engine.needs_rewrite_log_files(LogQueue::Append)),
+        WholeLine::NeedsRewrite => said.whether(engine.needs_rewrite_log_files(LogQueue::Rewrite)),
+        WholeLine::SpanAppend => said.pair(spans.append.0, spans.append.1),
+        WholeLine::SpanRewrite => said.pair(spans.rewrite.0, spans.rewrite.1),
     }
 }
 
 /// What an engine answers.
-pub(crate) fn answer<F: FileSystem>(
-    alloc: Global,
-    names: &Names,
-    engine: &mut Engine<F>,
-    words: &[&str],
-) -> Result<Answer, Unanswered> {
-    let [verb, rest @ ..] = words else {
-        return Err(Unanswered::BadLine);
-    };
-    match *verb {
-        "entry" => entry_at(alloc, engine, rest),
-        "message-at" => message_at(alloc, names, engine, rest),
-        "plain-entry" => Ok(bytes_in(engine.get_entry::<Plain>(one(rest)?, 0))),
-        "plain-at" => plain_message(alloc, names, engine, rest),
-        "needs" => needs(engine, rest),
-        "span" => span_of(engine, rest),
-        "fetch" => fetched(alloc, engine, rest),
-        "scan" => scanned(alloc, names, engine, rest),
-        "messages" => messages(alloc, engine, rest),
-        "whole" => whole(alloc, engine, one(rest)?),
-        _ => answer_whole(alloc, engine, words),
+pub(crate) fn answer<F: FileSystem>(line: &mut Line, engine: &mut Engine<F>, asked: LookLine) {
+    match asked {
+        LookLine::Found => found(line, engine),
+        LookLine::Whole(asked) => of_whole(&mut line.said, engine, asked),
+        LookLine::Entry(asked) => entry(line, engine, asked),
+        LookLine::Scan(reverse) => scan(line, engine, reverse),
+        LookLine::Messages(reverse) => messages(line, engine, reverse),
     }
 }

@@ -2,16 +2,20 @@
 //! answered, and prints how many there were and which are answered otherwise. README.md has them.
 #![tactic(auto)]
 
-mod answer;
 mod appends;
+mod asked;
 mod batch;
 mod calls;
 mod check;
 mod dump;
 mod files;
+mod forms;
+mod line;
 mod looks;
+mod outcome;
 mod plain;
 mod program;
+mod said;
 mod session;
 mod table;
 mod words;

@@ -1,18 +1,30 @@
 //! Lines of the program `raftlog`, and what it prints for them.
 
-use crate::answer::{Answer, Unanswered};
-use crate::words::{Names, bytes_of};
+use crate::asked::ProgramLine;
+use crate::line::Line;
+use crate::said::Said;
 use raft_lines::{Ended, serve};
-use std::alloc::{AllocError, Global};
+use raft_records::Fault;
+use std::alloc::Global;
 use std::str;
 
 /// The lines that the program reads, and what it printed.
-#[derive(Drop)]
 pub(crate) struct Program {
     input: Vec<u8>,
     printed: Vec<u8>,
     // Where the next printed line begins.
     at: usize,
+}
+
+// One call in a proof that drops it; derived, it would be one of each field (docs/DECISIONS.md).
+impl Drop for Program {
+    fn drop(self) {
+        let Program {
+            input: _input,
+            printed: _printed,
+            at: _,
+        } = self;
+    }
 }
 
 fn count_lines(printed: &[u8]) -> u64 {
@@ -35,12 +47,15 @@ fn line_len(printed: &[u8]) -> Option<usize> {
     None
 }
 
-fn ended_text(alloc: Global, ended: Ended, lines: u64) -> Result<String, AllocError> {
+fn say_ended(said: &mut Said, ended: Ended, lines: u64) {
     match ended {
-        Ended::Done => format!(in alloc; "done {lines}"),
-        Ended::BadLine(number) => format!(in alloc; "bad-line {number} {lines}"),
-        Ended::Opening => format!(in alloc; "opening {lines}"),
-        Ended::Input | Ended::Output => String::from_str(alloc, "failed"),
+        Ended::Done => said.with("done ", lines),
+        Ended::BadLine(number) => {
+            said.with("bad-line ", number);
+            said.with(" ", lines);
+        }
+        Ended::Opening => said.with("opening ", lines),
+        Ended::Input | Ended::Output => said.say("failed"),
     }
 }
 
@@ -53,49 +68,47 @@ impl Program {
         }
     }
 
-    pub(crate) fn add(&mut self, line: &[u8], end: &[u8]) -> Result<Answer, Unanswered> {
+    /// It reads a line.
+    pub(crate) fn add(&mut self, line: &[u8], end: &[u8]) -> Result<(), Fault> {
         self.input.extend_from_slice(line)?;
         self.input.extend_from_slice(end)?;
-        Ok(Answer::Done)
+        Ok(())
     }
 
-    // Runs the program. Answers how it ended, and how many lines it printed.
-    fn serve(&mut self, alloc: Global) -> Result<Answer, Unanswered> {
-        let ended = serve(alloc, self.input.as_slice(), &mut self.printed);
-        Ok(Answer::Text(ended_text(alloc, ended, count_lines(&self.printed))?))
+    // Runs the program. Says how it ended, and how many lines it printed.
+    fn serve(&mut self, line: &mut Line) {
+        let ended = serve(line.alloc, self.input.as_slice(), &mut self.printed);
+        say_ended(&mut line.said, ended, count_lines(&self.printed));
     }
 
-    /// It reads these bytes, or it runs.
-    pub(crate) fn answer(
-        &mut self,
-        alloc: Global,
-        names: &Names,
-        words: &[&str],
-    ) -> Result<Answer, Unanswered> {
-        match words {
-            ["<"] => self.add(b"", b"\n"),
-            ["read", bytes] => {
-                let bytes = bytes_of(alloc, names, bytes)?;
-                self.add(&bytes, b"")
-            }
-            ["serve"] => self.serve(alloc),
-            _ => Err(Unanswered::BadLine),
+    /// It reads bytes, or it runs.
+    pub(crate) fn answer(&mut self, line: &mut Line, asked: ProgramLine) {
+        let read = match asked {
+            ProgramLine::Newline => self.add(b"", b"\n"),
+            ProgramLine::Read => self.add(line.bytes(0), b""),
+            ProgramLine::Serve => return self.serve(line),
+        };
+        line.done(read);
+    }
+
+    fn next_len(&self) -> Option<usize> {
+        line_len(self.printed.get(self.at..)?)
+    }
+
+    fn next_text(&self, len: usize) -> Option<&str> {
+        let end = self.at.saturating_add(len);
+        str::from_utf8(self.printed.get(self.at..end)?).ok()
+    }
+
+    /// Says the next line that was printed.
+    pub(crate) fn next_line(&mut self, line: &mut Line) {
+        let Some(len) = self.next_len() else {
+            return line.bad();
+        };
+        match self.next_text(len) {
+            Some(text) => line.said.say(text),
+            None => line.bad(),
         }
-    }
-
-    /// The next line that was printed.
-    pub(crate) fn next_line(&mut self, alloc: Global) -> Result<Answer, Unanswered> {
-        let Some(rest) = self.printed.get(self.at..) else {
-            return Err(Unanswered::BadLine);
-        };
-        let Some(len) = line_len(rest) else {
-            return Err(Unanswered::BadLine);
-        };
-        let Ok(line) = str::from_utf8(rest.get(..len).unwrap_or(rest)) else {
-            return Err(Unanswered::BadLine);
-        };
-        let answer = Answer::Text(String::from_str(alloc, line)?);
         self.at = self.at.saturating_add(len).saturating_add(1);
-        Ok(answer)
     }
 }

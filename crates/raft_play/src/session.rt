@@ -1,354 +1,190 @@
 //! A log in memory, as the lines of a story leave it.
 
-use crate::answer::{Answer, Unanswered};
+use crate::asked::{Asked, CallLine, FilesLine, LogLine, LookLine, SettingsLine};
 use crate::batch::Writing;
-use crate::calls::{Call, call_of, outcome_of};
-use crate::files::mode_of;
+use crate::line::Line;
 use crate::program::Program;
-use crate::words::{Names, bytes_of, number, one};
-use crate::{files, looks};
+use crate::{calls, files, looks};
 use raft_env::IoKind;
 use raft_memory::FsCall;
 use raft_records::{Fault, Fresh};
 use raft_settings::with_text;
-use raft_test_rows::{Config, Failing, Faulty, Held, Outcome, RecoveryMode, settings};
+use raft_test_rows::{Config, Failing, Faulty, Held, RecoveryMode, settings};
 use std::alloc::{AllocError, Global};
 
-/// Names of bytes, the settings of the next opening, the batch of the next write, and the lines of
-/// a program. The files, or an engine over them, stand beside it.
-#[derive(Drop)]
+/// The settings of the next opening, the batch of the next write, the lines of a program, and the
+/// line that is answered. The files, or an engine over them, stand beside it.
 pub(crate) struct Session {
     alloc: Global,
-    names: Names,
     config: Config,
     writing: Writing,
     program: Program,
+    pub(crate) line: Line,
 }
 
-/// What a line asks something of.
-#[derive(Clone, Copy)]
-enum Topic {
-    /// The settings of the next opening, or bytes with names.
-    Settings,
-    Log,
-    Batch,
-    Files,
-    Program,
-    /// A call of an engine.
-    Call,
-    /// What an engine holds.
-    Look,
-}
-
-/// The words with which lines of a topic begin; all others ask for looks.
-const SETTINGS_LINES: [&str; 3] = ["settings", "set", "name"];
-
-const LOG_LINES: [&str; 7] = ["open", "why", "close", "reopen", "give-up", "fail", "stop"];
-
-const BATCH_LINES: [&str; 12] = [
-    "put",
-    "del",
-    "message",
-    "ent",
-    "raw",
-    "plain",
-    "plain-message",
-    "clean",
-    "compact",
-    "next",
-    "flags",
-    "drop",
-];
-
-const FILE_LINES: [&str; 19] = [
-    "folder",
-    "store",
-    "note",
-    "free",
-    "crash",
-    "has",
-    "is-folder",
-    "metadata",
-    "length",
-    "files",
-    "logs",
-    "fork",
-    "agree",
-    "items",
-    "file-items",
-    "folder-items",
-    "places",
-    "shift",
-    "cut",
-];
-
-const PROGRAM_LINES: [&str; 3] = ["<", "read", "serve"];
-
-const CALL_LINES: [&str; 13] = [
-    "write",
-    "once",
-    "write-group",
-    "each",
-    "append",
-    "sync",
-    "get",
-    "compact-to",
-    "first",
-    "last",
-    "groups",
-    "rewrite",
-    "purge",
-];
-
-fn topic_of(word: &str) -> Topic {
-    if SETTINGS_LINES.contains(&word) {
-        Topic::Settings
-    } else if LOG_LINES.contains(&word) {
-        Topic::Log
-    } else if BATCH_LINES.contains(&word) {
-        Topic::Batch
-    } else if FILE_LINES.contains(&word) {
-        Topic::Files
-    } else if PROGRAM_LINES.contains(&word) {
-        Topic::Program
-    } else if CALL_LINES.contains(&word) {
-        Topic::Call
-    } else {
-        Topic::Look
+// One call in a proof that drops it; derived, it would be one of each field (docs/DECISIONS.md).
+impl Drop for Session {
+    fn drop(self) {
+        let Session {
+            alloc: _,
+            config: _config,
+            writing: _writing,
+            program: _program,
+            line: _line,
+        } = self;
     }
 }
 
-fn words_of<'a>(alloc: Global, asked: &'a str) -> Result<Vec<&'a str>, AllocError> {
-    let mut words = Vec::new(alloc);
-    for word in asked.split_whitespace() {
-        words.push(word)?;
+const CALLS: [(&str, FsCall); 16] = [
+    ("create", FsCall::Create),
+    ("open", FsCall::Open),
+    ("delete", FsCall::Delete),
+    ("rename", FsCall::Rename),
+    ("delete-metadata", FsCall::DeleteMetadata),
+    ("reader", FsCall::NewReader),
+    ("writer", FsCall::NewWriter),
+    ("write", FsCall::Write),
+    ("truncate", FsCall::Truncate),
+    ("allocate", FsCall::Allocate),
+    ("sync", FsCall::Sync),
+    ("size", FsCall::FileSize),
+    ("make-dir", FsCall::MakeDir),
+    ("list", FsCall::List),
+    ("free-space", FsCall::FreeSpace),
+    ("read", FsCall::Read),
+];
+
+fn call_named(word: &str) -> Option<FsCall> {
+    for (name, call) in &CALLS {
+        if *name == word {
+            return Some(*call);
+        }
     }
-    Ok(words)
+    None
 }
 
-fn call_named(word: &str) -> Result<FsCall, Unanswered> {
-    Ok(match word {
-        "create" => FsCall::Create,
-        "open" => FsCall::Open,
-        "delete" => FsCall::Delete,
-        "rename" => FsCall::Rename,
-        "delete-metadata" => FsCall::DeleteMetadata,
-        "reader" => FsCall::NewReader,
-        "writer" => FsCall::NewWriter,
-        "write" => FsCall::Write,
-        "truncate" => FsCall::Truncate,
-        "allocate" => FsCall::Allocate,
-        "sync" => FsCall::Sync,
-        "size" => FsCall::FileSize,
-        "make-dir" => FsCall::MakeDir,
-        "list" => FsCall::List,
-        "free-space" => FsCall::FreeSpace,
-        "read" => FsCall::Read,
-        _ => return Err(Unanswered::BadLine),
-    })
-}
-
-fn kind_named(word: &str) -> Result<IoKind, Unanswered> {
+fn kind_named(word: &str) -> Option<IoKind> {
     match word {
-        "no-space" => Ok(IoKind::NoSpace),
-        "not-found" => Ok(IoKind::NotFound),
-        "other" => Ok(IoKind::Other),
-        _ => Err(Unanswered::BadLine),
+        "no-space" => Some(IoKind::NoSpace),
+        "not-found" => Some(IoKind::NotFound),
+        "other" => Some(IoKind::Other),
+        _ => None,
     }
 }
 
-fn failing_of(words: &[&str]) -> Result<Failing, Unanswered> {
-    let [call, nth, kind] = words else {
-        return Err(Unanswered::BadLine);
-    };
-    let (call, nth) = (call_named(call)?, number(nth)?);
-    Ok(Failing::Nth(call, nth, kind_named(kind)?))
-}
-
-fn mode_in(words: &[&str]) -> Result<RecoveryMode, Unanswered> {
-    match words {
-        [] => Ok(RecoveryMode::TolerateTailCorruption),
-        [mode] => mode_of(mode),
-        _ => Err(Unanswered::BadLine),
-    }
-}
-
-fn copied(config: &Config) -> Result<Config, Unanswered> {
-    match config.clone() {
-        Ok(copy) => Ok(copy),
-        Err(_) => Err(Unanswered::MEMORY),
-    }
-}
-
-// Why the last opening or closing was refused, if a rule did it.
-fn reason(alloc: Global, fault: Option<&Fault>) -> Result<Answer, Unanswered> {
-    match fault {
-        Some(Fault::InvalidArgument(reason)) => {
-            Ok(Answer::Text(String::from_str(alloc, reason)?))
-        }
-        _ => Err(Unanswered::BadLine),
-    }
-}
-
-// What the last opening or closing came to.
-fn came_to<F: Faulty>(held: &Held<F>) -> Result<Answer, Unanswered> {
-    match held.fault() {
-        Some(fault) => Err(Unanswered::Refused(fault.code())),
-        None => Ok(Answer::Done),
-    }
-}
-
-fn open<F: Faulty>(
-    alloc: Global,
-    config: &Config,
-    held: &mut Held<F>,
-    mode: RecoveryMode,
-) -> Result<Answer, Unanswered> {
-    let mut config = copied(config)?;
-    config.recovery_mode = mode;
-    held.open_with(alloc, config);
-    came_to(held)
-}
-
-fn fail<F: Faulty>(held: &mut Held<F>, failing: Failing) -> Result<Answer, Unanswered> {
+fn fail<F: Faulty>(line: &mut Line, held: &mut Held<F>, failing: Failing) {
     if held.fail(failing) {
-        Ok(Answer::Done)
+        line.said.say("ok");
     } else {
-        Err(Unanswered::BadLine)
+        line.bad();
     }
 }
 
-// Closings, and why the last one or an opening was refused.
-fn answer_closing<F: Faulty>(
-    alloc: Global,
-    held: &mut Held<F>,
-    words: &[&str],
-) -> Result<Answer, Unanswered> {
-    let is_open = matches!(held, Held::Engine(_));
-    match words {
-        ["why"] => return reason(alloc, held.fault()),
-        ["close"] if is_open => held.close(),
-        ["reopen"] if is_open => held.reopen(),
-        ["give-up"] => {
-            held.give_up();
-            return Ok(Answer::Done);
+fn fail_nth<F: Faulty>(line: &mut Line, held: &mut Held<F>) {
+    let nth = line.number(0);
+    match (call_named(line.text(0)), kind_named(line.text(1))) {
+        (Some(call), Some(kind)) => fail(line, held, Failing::Nth(call, nth, kind)),
+        _ => line.bad(),
+    }
+}
+
+// Says what the last opening or closing came to.
+fn came_to<F: Faulty>(line: &mut Line, held: &Held<F>) {
+    match held.fault() {
+        Some(fault) => line.refused(fault.code()),
+        None => line.said.say("ok"),
+    }
+}
+
+// Why it was refused, if a rule did it.
+fn why<F: Faulty>(line: &mut Line, held: &Held<F>) {
+    match held.fault() {
+        Some(Fault::InvalidArgument(reason)) => line.said.say(reason),
+        _ => line.bad(),
+    }
+}
+
+fn open<F: Faulty>(line: &mut Line, config: &Config, held: &mut Held<F>, mode: RecoveryMode) {
+    match config.clone() {
+        Ok(copy) => {
+            let mut config = copy;
+            config.recovery_mode = mode;
+            held.open_with(line.alloc, config);
+            came_to(line, held);
         }
-        _ => return Err(Unanswered::BadLine),
-    }
-    came_to(held)
-}
-
-// Openings, closings, and calls that are to fail.
-fn answer_log<F: Faulty>(
-    alloc: Global,
-    config: &Config,
-    held: &mut Held<F>,
-    words: &[&str],
-) -> Result<Answer, Unanswered> {
-    let [verb, rest @ ..] = words else {
-        return Err(Unanswered::BadLine);
-    };
-    match *verb {
-        "open" => open(alloc, config, held, mode_in(rest)?),
-        "fail" => fail(held, failing_of(rest)?),
-        "stop" => fail(held, Failing::From(one(rest)?)),
-        _ => answer_closing(alloc, held, words),
+        Err(_) => line.refuse(Fault::Memory),
     }
 }
 
-// What a call comes to, and whether it left the batch as it should.
-fn outcome<F: Faulty>(
-    alloc: Global,
-    held: &mut Held<F>,
-    writing: &mut Writing,
-    call: &Call,
-) -> Result<Answer, Unanswered> {
-    let Held::Engine(engine) = held else {
-        return Err(Unanswered::BadLine);
-    };
-    let had_items = !writing.batch.is_empty();
-    let outcome = outcome_of(alloc, engine, writing, call);
-    if !writing.has_kept(had_items, &outcome) {
-        return Ok(Answer::Text(String::from_str(alloc, "another batch")?));
+fn end<F: Faulty>(line: &mut Line, held: &mut Held<F>, is_reopened: bool) {
+    if !matches!(held, Held::Engine(_)) {
+        return line.bad();
     }
-    if let Outcome::Sizes(_) = &outcome {
-        *writing = Writing::new(alloc);
+    if is_reopened {
+        held.reopen();
+    } else {
+        held.close();
     }
-    Ok(Answer::Outcome(outcome))
+    came_to(line, held);
 }
 
-fn answer_call<F: Faulty>(
-    alloc: Global,
-    names: &Names,
-    held: &mut Held<F>,
-    writing: &mut Writing,
-    words: &[&str],
-) -> Result<Answer, Unanswered> {
-    let call = call_of(alloc, names, words)?;
-    outcome(alloc, held, writing, &call)
-}
-
-fn answer_look<F: Faulty>(
-    alloc: Global,
-    names: &Names,
-    held: &mut Held<F>,
-    words: &[&str],
-) -> Result<Answer, Unanswered> {
-    match held {
-        Held::Engine(engine) => looks::answer(alloc, names, engine, words),
-        _ => Err(Unanswered::BadLine),
+fn answer_log<F: Faulty>(line: &mut Line, config: &Config, held: &mut Held<F>, asked: LogLine) {
+    let nth = line.number(0);
+    match asked {
+        LogLine::Open(mode) => open(line, config, held, mode),
+        LogLine::Why => why(line, held),
+        LogLine::Close => end(line, held, false),
+        LogLine::Reopen => end(line, held, true),
+        LogLine::GiveUp => {
+            held.give_up();
+            line.said.say("ok");
+        }
+        LogLine::Fail => fail_nth(line, held),
+        LogLine::Stop => fail(line, held, Failing::From(nth)),
     }
 }
 
-fn change_setting(
-    alloc: Global,
-    config: &mut Config,
-    key: &str,
-    value: &str,
-) -> Result<Answer, Unanswered> {
+// The settings with another value of one of them, as in TOML.
+fn with_value(alloc: Global, config: &Config, key: &str, value: &str) -> Result<Config, Fault> {
     let text = format!(in alloc; "{key} = {value}")?;
-    let changed = with_text(alloc, config, text.as_str())?;
-    *config = changed;
-    Ok(Answer::Done)
+    with_text(alloc, config, text.as_str())
 }
 
-fn add_name(
-    alloc: Global,
-    names: &mut Names,
-    name: &str,
-    bytes: &str,
-) -> Result<Answer, Unanswered> {
-    let bytes = bytes_of(alloc, names, bytes)?;
-    names.push((String::from_str(alloc, name)?, bytes))?;
-    Ok(Answer::Done)
+fn usual(alloc: Global) -> Result<Config, Fault> {
+    Ok(settings(alloc)?)
+}
+
+fn set(line: &mut Line, config: &mut Config, made: Result<Config, Fault>) {
+    match made {
+        Ok(changed) => {
+            *config = changed;
+            line.said.say("ok");
+        }
+        Err(fault) => line.refuse(fault),
+    }
 }
 
 // The settings of the next opening, and bytes with names.
-fn answer_settings(
-    alloc: Global,
-    names: &mut Names,
-    config: &mut Config,
-    words: &[&str],
-) -> Result<Answer, Unanswered> {
-    match words {
-        ["set", key, value] => change_setting(alloc, config, key, value),
-        ["name", name, bytes] => add_name(alloc, names, name, bytes),
-        ["settings"] => {
-            *config = settings(alloc)?;
-            Ok(Answer::Done)
+fn answer_settings(line: &mut Line, config: &mut Config, asked: SettingsLine) {
+    let made = match asked {
+        SettingsLine::Usual => usual(line.alloc),
+        SettingsLine::Set => with_value(line.alloc, config, line.text(0), line.text(1)),
+        SettingsLine::Name => {
+            let named = line.name();
+            return line.done(named);
         }
-        _ => Err(Unanswered::BadLine),
-    }
+    };
+    set(line, config, made);
 }
 
 impl Session {
     pub(crate) fn new(alloc: Global) -> Session {
         Session {
             alloc,
-            names: Vec::new(alloc),
             config: Config::fresh(alloc),
             writing: Writing::new(alloc),
             program: Program::new(alloc),
+            line: Line::new(alloc),
         }
     }
 
@@ -361,50 +197,67 @@ impl Session {
         Ok(())
     }
 
-    fn answer_words<F: Faulty>(
-        &mut self,
-        held: &mut Held<F>,
-        words: &[&str],
-    ) -> Result<Answer, Unanswered> {
-        let [first, ..] = words else {
-            return Err(Unanswered::BadLine);
-        };
-        let alloc = self.alloc;
-        match topic_of(first) {
-            Topic::Settings => answer_settings(alloc, &mut self.names, &mut self.config, words),
-            Topic::Log => answer_log(alloc, &self.config, held, words),
-            Topic::Batch => self.writing.answer(alloc, &self.names, words),
-            Topic::Files => match held.files() {
-                Some(files) => files::answer(alloc, &self.names, &self.config, files, words),
-                None => Err(Unanswered::BadLine),
-            },
-            Topic::Program => self.program.answer(alloc, &self.names, words),
-            Topic::Call => answer_call(alloc, &self.names, held, &mut self.writing, words),
-            Topic::Look => answer_look(alloc, &self.names, held, words),
+    fn answer_files<F: Faulty>(&mut self, held: &mut Held<F>, asked: FilesLine) {
+        match held.files() {
+            Some(files) => files::answer(&mut self.line, &self.config, files, asked),
+            None => self.line.bad(),
+        }
+    }
+
+    fn answer_call<F: Faulty>(&mut self, held: &mut Held<F>, asked: CallLine) {
+        match held {
+            Held::Engine(engine) => {
+                calls::answer(&mut self.line, &mut self.writing, engine, asked);
+            }
+            _ => self.line.bad(),
+        }
+    }
+
+    fn answer_look<F: Faulty>(&mut self, held: &mut Held<F>, asked: LookLine) {
+        match held {
+            Held::Engine(engine) => looks::answer(&mut self.line, engine, asked),
+            _ => self.line.bad(),
+        }
+    }
+
+    fn answer_asked<F: Faulty>(&mut self, held: &mut Held<F>, asked: Asked) {
+        match asked {
+            Asked::Settings(asked) => answer_settings(&mut self.line, &mut self.config, asked),
+            Asked::Log(asked) => answer_log(&mut self.line, &self.config, held, asked),
+            Asked::Batch(asked) => self.writing.answer(&mut self.line, asked),
+            Asked::Files(asked) => self.answer_files(held, asked),
+            Asked::Program(asked) => self.program.answer(&mut self.line, asked),
+            Asked::Call(asked) => self.answer_call(held, asked),
+            Asked::Look(asked) => self.answer_look(held, asked),
         }
     }
 
     // A line of `raftlog` is taken as it stands.
-    fn answer<F: Faulty>(&mut self, held: &mut Held<F>, asked: &str) -> Result<Answer, Unanswered> {
-        if let Some(line) = asked.strip_prefix("< ") {
-            return self.program.add(line.as_bytes(), b"\n");
+    fn answer_printed(&mut self, asked: &str) {
+        match asked.strip_prefix("< ") {
+            Some(text) => {
+                let added = self.program.add(text.as_bytes(), b"\n");
+                self.line.done(added);
+            }
+            None => self.program.next_line(&mut self.line),
         }
-        if asked == ">" {
-            return self.program.next_line(self.alloc);
-        }
-        let words = words_of(self.alloc, asked)?;
-        self.answer_words(held, &words)
     }
 
-    /// What a line is answered, as text.
-    pub(crate) fn answered<F: Faulty>(
+    /// Answers a line, which then has its answer.
+    pub(crate) fn answer<F: Faulty>(
         &mut self,
         held: &mut Held<F>,
         asked: &str,
-    ) -> Result<String, AllocError> {
-        match self.answer(held, asked) {
-            Ok(answer) => format!(in self.alloc; "{answer}"),
-            Err(unanswered) => format!(in self.alloc; "{unanswered}"),
+    ) -> Result<(), AllocError> {
+        self.line.begin();
+        if asked == ">" || asked.starts_with("< ") {
+            self.answer_printed(asked);
+            return Ok(());
         }
+        match self.line.read(asked)? {
+            Some(asked) => self.answer_asked(held, asked),
+            None => self.line.bad(),
+        }
+        Ok(())
     }
 }

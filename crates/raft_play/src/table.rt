@@ -1,6 +1,6 @@
 //! A file of lines, played from its first to its last.
 
-use crate::answer::BAD_LINE;
+use crate::line::BAD_LINE;
 use crate::session::Session;
 use raft_test_rows::{Faulty, Held};
 use std::alloc::{AllocError, Global};
@@ -41,6 +41,30 @@ fn is_right(answered: &str, wanted: Option<&str>) -> bool {
 }
 
 impl Tally {
+    // Counts a line that is answered so, and keeps the first one that is answered otherwise.
+    fn count(
+        &mut self,
+        alloc: Global,
+        number: usize,
+        line: &str,
+        wanted: Option<&str>,
+        answered: &str,
+    ) -> Result<(), AllocError> {
+        self.lines = self.lines.saturating_add(1);
+        if wanted.is_some() {
+            self.answers = self.answers.saturating_add(1);
+        }
+        if is_right(answered, wanted) {
+            return Ok(());
+        }
+        self.wrong = self.wrong.saturating_add(1);
+        if self.first_wrong.is_none() {
+            let text = format!(in alloc; "line {number}: {line}: was {answered}")?;
+            self.first_wrong = Some(text);
+        }
+        Ok(())
+    }
+
     fn play_line<F: Faulty>(
         &mut self,
         alloc: Global,
@@ -54,19 +78,8 @@ impl Tally {
             return session.renew(held);
         }
         let (asked, wanted) = parts(line);
-        self.lines = self.lines.saturating_add(1);
-        if wanted.is_some() {
-            self.answers = self.answers.saturating_add(1);
-        }
-        let answered = session.answered(held, asked)?;
-        if !is_right(answered.as_str(), wanted) {
-            self.wrong = self.wrong.saturating_add(1);
-            if self.first_wrong.is_none() {
-                let text = format!(in alloc; "line {number}: {line}: was {answered}")?;
-                self.first_wrong = Some(text);
-            }
-        }
-        Ok(())
+        session.answer(held, asked)?;
+        self.count(alloc, number, line, wanted, session.line.answer())
     }
 }
 
