@@ -85,6 +85,9 @@ static int fails_of(bool of_note) {
     return fails;
 }
 
+/* The system doesn't interrupt a call on a name. */
+static int fails_name(bool of_note) { return faults_error != EINTR && fails_of(of_note); }
+
 /* A sync of the folder right after a call on the note is the note's. */
 static int fails(int fd) { return fails_of(is_note(fd) || (was_note && is_folder(fd))); }
 
@@ -145,19 +148,19 @@ int __real_fsync(int fd);
 int __wrap_fsync(int fd) { return fails(fd) ? -1 : __real_fsync(fd); }
 int __real_unlinkat(int in, const char *name, int flags);
 int __wrap_unlinkat(int in, const char *name, int flags) {
-    return fails_of(ends_as_note(name)) ? -1 : __real_unlinkat(in, name, flags);
+    return fails_name(ends_as_note(name)) ? -1 : __real_unlinkat(in, name, flags);
 }
 int __real_renameat(int in, const char *from, int other, const char *to);
 int __wrap_renameat(int in, const char *from, int other, const char *to) {
-    return fails_of(false) ? -1 : __real_renameat(in, from, other, to);
+    return fails_name(false) ? -1 : __real_renameat(in, from, other, to);
 }
 int __real_mkdirat(int in, const char *name, mode_t mode);
 int __wrap_mkdirat(int in, const char *name, mode_t mode) {
-    return fails_of(false) ? -1 : __real_mkdirat(in, name, mode);
+    return fails_name(false) ? -1 : __real_mkdirat(in, name, mode);
 }
 ssize_t __real_sendfile(int to, int from, off_t *at, size_t len);
 ssize_t __wrap_sendfile(int to, int from, off_t *at, size_t len) {
     return fails_of(false) ? -1 : __real_sendfile(to, from, at, len);
 }
 int __real_mkdir(const char *path, mode_t mode);
-int __wrap_mkdir(const char *path, mode_t mode) { return fails_of(false) ? -1 : __real_mkdir(path, mode); }
+int __wrap_mkdir(const char *path, mode_t mode) { return fails_name(false) ? -1 : __real_mkdir(path, mode); }

@@ -22,7 +22,7 @@ char *parts_joined(const char *folder, const char *name) {
 static int sync_path(const char *path) {
     int fd = open(path, O_RDONLY | O_CLOEXEC);
     if (fd < 0) return errno;
-    int error = fsync(fd) ? errno : 0;
+    int error = TEMP_FAILURE_RETRY(fsync(fd)) ? errno : 0;
     close(fd);
     return error;
 }
@@ -112,7 +112,7 @@ int parts_folder_of(raftlog *log, const char *path, const char **name) {
     above[len] = 0;
     int in = parts_folder_of(log, above, &last);
     if (in < 0) return -1;
-    int fd = openat(in, last, O_RDONLY | O_DIRECTORY | O_NOFOLLOW | O_CLOEXEC);
+    int fd = TEMP_FAILURE_RETRY(openat(in, last, O_RDONLY | O_DIRECTORY | O_NOFOLLOW | O_CLOEXEC));
     if (fd < 0) return errno = why_not_opened(in, last, errno), -1;
     int error = parts_hold(log, path, len, fd);
     return error ? errno = error, -1 : fd;
@@ -120,7 +120,7 @@ int parts_folder_of(raftlog *log, const char *path, const char **name) {
 
 /* ---- names in them */
 
-static int sync_fd(int fd) { return fsync(fd) ? errno : 0; }
+static int sync_fd(int fd) { return TEMP_FAILURE_RETRY(fsync(fd)) ? errno : 0; }
 
 int parts_make_below(raftlog *log, const char *path) {
     int error = 0;
@@ -155,7 +155,7 @@ static int look_at(int in, const char *name) {
 int parts_make_file(int in, const char *name) {
     int error = look_at(in, name);
     if (error) return error;
-    int fd = openat(in, name, O_RDWR | O_CREAT | O_NOFOLLOW | O_CLOEXEC, 0666);
+    int fd = TEMP_FAILURE_RETRY(openat(in, name, O_RDWR | O_CREAT | O_NOFOLLOW | O_CLOEXEC, 0666));
     if (fd < 0) return errno;
     close(fd);
     return sync_fd(in);
@@ -173,9 +173,9 @@ static int copy_bytes(int from, int to) {
 
 /* Copies a file to one of the second name, which is new, and syncs it. */
 static int copy_file(int in, const char *name, int other, const char *copy) {
-    int from = openat(in, name, O_RDONLY | O_NOFOLLOW | O_CLOEXEC);
+    int from = TEMP_FAILURE_RETRY(openat(in, name, O_RDONLY | O_NOFOLLOW | O_CLOEXEC));
     if (from < 0) return errno;
-    int to = openat(other, copy, O_WRONLY | O_CREAT | O_TRUNC | O_NOFOLLOW | O_CLOEXEC, 0666);
+    int to = TEMP_FAILURE_RETRY(openat(other, copy, O_WRONLY | O_CREAT | O_TRUNC | O_NOFOLLOW | O_CLOEXEC, 0666));
     int error = to < 0 ? errno : copy_bytes(from, to);
     close(from);
     if (to >= 0) close(to);

@@ -134,7 +134,7 @@ static int find_all(raftlog *log, struct found *found, const char *path, DIR *di
  * closed. One below it that may not be read, or has no name in UTF-8, is passed over. */
 static int find_in(raftlog *log, struct found *found, const char *path, int fd) {
     DIR *dir = fdopendir(fd);
-    int error = dir ? fsync(fd) ? errno : 0 : errno, code = RAFTLOG_OK;
+    int error = dir ? TEMP_FAILURE_RETRY(fsync(fd)) ? errno : 0 : errno, code = RAFTLOG_OK;
     if (error && !(*path && error == EACCES)) code = fail_at(log, found, path, error);
     if (!error) code = raft_c_add_folder(&log->handle, parts_some(path), strlen(path));
     if (!error && !code) code = find_all(log, found, path, dir);
@@ -194,7 +194,7 @@ static int load_file(raftlog *log, const char *path) {
     struct stat found;
     uint8_t *bytes = NULL;
     bool is_mapped = false;
-    int error = fsync(fd) || fstat(fd, &found) ? errno : 0;
+    int error = TEMP_FAILURE_RETRY(fsync(fd)) || fstat(fd, &found) ? errno : 0;
     size_t len = error ? 0 : (size_t)found.st_size;
     if (len) error = map_file(fd, len, &bytes, &is_mapped);
     if (!error) error = hand_over(log, path, bytes, len);

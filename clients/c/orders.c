@@ -41,7 +41,7 @@ static int open_file(raftlog *log, const char *path) {
     const char *name;
     int in = parts_folder_of(log, path, &name);
     if (in < 0) return errno;
-    log->file = openat(in, name, O_RDWR | O_NOFOLLOW | O_CLOEXEC);
+    log->file = TEMP_FAILURE_RETRY(openat(in, name, O_RDWR | O_NOFOLLOW | O_CLOEXEC));
     int error = log->file < 0 ? errno : 0;
     if (!error) heap_take_up(&log->behind, &log->heap, log->file);
     if (!error && !(log->path = strdup(path))) error = ENOMEM;
@@ -65,7 +65,7 @@ static int resize(raftlog *log, uint64_t size, bool cut) {
     if (cut ? (uint64_t)found.st_size <= size : (uint64_t)found.st_size >= size) return 0;
     int error = cut ? heap_before_cut(&log->behind, size) : 0;
     if (error) return error;
-    return ftruncate(log->file, (off_t)size) ? errno : 0;
+    return TEMP_FAILURE_RETRY(ftruncate(log->file, (off_t)size)) ? errno : 0;
 }
 
 /* Cuts the open file, and notes what an opening cuts off. */
@@ -99,7 +99,7 @@ static void count_sync(struct parts_counts *counts, uint64_t ns) {
 static int sync_file(raftlog *log) {
     parts_catch_up_spans(log);
     uint64_t began = parts_now_ns();
-    int error = fdatasync(log->file) ? errno : 0;
+    int error = TEMP_FAILURE_RETRY(fdatasync(log->file)) ? errno : 0;
     struct stat found;
     /* A file that another program deleted is lost, although the system syncs it. */
     if (!error && !fstat(log->file, &found) && !found.st_nlink) error = ESTALE;

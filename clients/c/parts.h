@@ -11,6 +11,11 @@
 #include <stdatomic.h>
 #include <string.h>
 
+/* A call of the system once more, as long as a signal interrupts it; from unistd.h of glibc. */
+#ifndef TEMP_FAILURE_RETRY
+#define TEMP_FAILURE_RETRY(call) ({ long done; do done = (call); while (done < 0 && errno == EINTR); done; })
+#endif
+
 /* crates/raft_c. A slice is a pointer, which is never null, and a length. */
 typedef struct {
     void *at;

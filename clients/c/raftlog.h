@@ -293,9 +293,8 @@ const char *raftlog_code_text(int code);
 /* ---- memory
  *
  * The index is in memory: 40 bytes an entry, and keys with their values. So is what was written since the last sync,
- * and during a purge twice RAFTLOG_PURGE_BYTES, and for each item of a batch room as for the longest value that it had in
- * this purge. The rest of the log files is mapped: the system takes that memory back when it needs it, and reads it again
- * from the files on demand. */
+ * and during a purge twice RAFTLOG_PURGE_BYTES, and at most 8 KB for each item of a record. The rest of the log files is
+ * mapped: the system takes that memory back when it needs it, and reads it again from the files on demand. */
 
 /* By default the program ends by SIGBUS if a part of a file cannot be read again: the disk fails, or another program
  * cut the file. After this call, once for the process, a read that needs this part fails as RAFTLOG_CORRUPTION, and so

@@ -186,11 +186,11 @@ static bool are_same(const struct span *one, const struct span *other) {
 
 static int remove_note(raftlog *log) {
     if (unlinkat(log->root, SPANS, 0)) return errno == ENOENT ? 0 : errno;
-    return fsync(log->root) ? errno : 0;
+    return TEMP_FAILURE_RETRY(fsync(log->root)) ? errno : 0;
 }
 
 static int make_note(raftlog *log) {
-    int fd = openat(log->root, SPANS, O_RDWR | O_CREAT | O_EXCL | O_NOFOLLOW | O_CLOEXEC, 0666);
+    int fd = TEMP_FAILURE_RETRY(openat(log->root, SPANS, O_RDWR | O_CREAT | O_EXCL | O_NOFOLLOW | O_CLOEXEC, 0666));
     if (fd < 0) return errno;
     log->spans->file = fd;
     return ftruncate(fd, 2 * SLOT) ? errno : 0;
@@ -210,9 +210,9 @@ static int write_note(raftlog *log) {
     while ((moved = pwrite(spans->file, slot, SLOT, (off_t)place * SLOT)) < 0 && errno == EINTR) continue;
     if (moved != SLOT) return moved < 0 ? errno : EIO;
     spans->count++;
-    if (fdatasync(spans->file)) return errno;
+    if (TEMP_FAILURE_RETRY(fdatasync(spans->file))) return errno;
     spans->synced = place;
-    return is_new && fsync(log->root) ? errno : 0;
+    return is_new && TEMP_FAILURE_RETRY(fsync(log->root)) ? errno : 0;
 }
 
 /* A note that can't be written is removed: without one nothing is reported as missing. */
@@ -227,7 +227,7 @@ static int write_or_remove(raftlog *log) {
 static int read_note(struct parts_spans *spans, int fd) {
     uint8_t bytes[2 * SLOT + 1];
     ssize_t len;
-    if (fsync(fd)) return errno;
+    if (TEMP_FAILURE_RETRY(fsync(fd))) return errno;
     while ((len = pread(fd, bytes, sizeof bytes, 0)) < 0 && errno == EINTR) continue;
     if (len < 0) return errno;
     for (ssize_t at = 0; at < len; at += SLOT) {
@@ -250,7 +250,7 @@ static int open_note(raftlog *log) {
         spans->is_silent = true;
         return 0;
     }
-    int fd = found ? -1 : openat(log->root, SPANS, O_RDWR | O_NOFOLLOW | O_CLOEXEC);
+    int fd = found ? -1 : TEMP_FAILURE_RETRY(openat(log->root, SPANS, O_RDWR | O_NOFOLLOW | O_CLOEXEC));
     int error = fd < 0 ? errno : read_note(spans, fd);
     if (!error && !spans->is_silent) spans->file = fd;
     else if (fd >= 0) close(fd);
