@@ -84,11 +84,16 @@ fn do_as_said(case: &Case, mut older: Reaches, newer: Reaches, whole: &Reaches) 
 }
 
 fn is_as_said(alloc: Global, case: &Case) -> bool {
-    let chunks = (reaches_of(alloc, case.older), reaches_of(alloc, case.newer));
-    match (chunks, whole_of(alloc, case)) {
-        ((Ok(older), Ok(newer)), Ok(whole)) => do_as_said(case, older, newer, &whole),
-        _ => false,
-    }
+    let Ok(older) = reaches_of(alloc, case.older) else {
+        return false;
+    };
+    let Ok(newer) = reaches_of(alloc, case.newer) else {
+        return false;
+    };
+    let Ok(whole) = whole_of(alloc, case) else {
+        return false;
+    };
+    do_as_said(case, older, newer, &whole)
 }
 
 #[test]
