@@ -17,14 +17,16 @@ import random
 import resource
 import select
 import shutil
+import signal
 import subprocess
 import sys
 import tempfile
+import threading
+import time
 
 from folders import logs_in
 
 DECODE = os.path.join(os.path.dirname(os.path.abspath(__file__)), "..", "decode")
-SIGXFSZ = 25
 SIZE = 100  # bytes of a loaded value
 
 
@@ -59,16 +61,24 @@ class Tests:
         """The looks at a log while a load writes it and, at the end, no more."""
         folder = self.place(name)
         self.run(folder, "put", 1, "first", "value", "--settings", self.small)
-        watch = self.start(folder, "watch", "--json", "--count", 12)
-        first = watch.stdout.readline()
+        watch, looks = self.start(folder, "watch", "--json"), []
+        reader = threading.Thread(target=lambda: looks.extend(json.loads(line) for line in watch.stdout))
+        reader.start()
+        self.wait(watch, looks, 1)
         load = self.run(folder, "load", keys, SIZE, "--sync-each", 40, "--settings", self.small, *words)
         self.expect(f"{name}: a load under a watch: {load.stderr}", load.returncode == 0)
-        told, errors = watch.communicate(timeout=120)
-        told = first + told
-        self.expect(f"{name}: a watch: {errors}", watch.returncode == 0)
-        looks = [json.loads(line) for line in told.splitlines()]
-        self.expect(f"{name}: {len(looks)} looks", len(looks) == 12)
+        # The look that is under way may have begun before the end.
+        self.wait(watch, looks, len(looks) + 2)
+        watch.terminate()
+        reader.join()
+        errors = watch.communicate()[1]
+        self.expect(f"{name}: a watch: {errors}", not errors and watch.returncode == -signal.SIGTERM)
         return folder, looks
+
+    def wait(self, watch, looks, count):
+        """Waits for so many looks of a watch that goes on."""
+        while len(looks) < count and watch.poll() is None:
+            time.sleep(0.1)
 
     def agrees(self, name, folder, last):
         """The last look has the files, bytes and records of `check`."""
