@@ -51,9 +51,9 @@ module _ {A B : Type 0} (purge : Purge) (m m' : MemTables) (s s' : GlobalStats) 
   pub frees_ok : (x : ℕ) → Frees {E = A} purge (Ok x) m m' s s' k k' c d' → Frees {E = B} purge (Ok x) m m' s s' k k' d d'
   frees_ok x frees =
       let f = subst (λ (p : DualState). Frees {E = A} purge (Ok x) m m' s s' k k' p d') same frees in
-      record { files = f.files; first = tt; append = f.append; tables = f.tables; apart = f.apart; idle = f.idle; counted = f.counted; stale = f.stale }
+      record { files = f.files; first = tt; append = f.append; tables = f.tables; apart = f.apart; idle = f.idle; counted = f.counted; stale = f.stale; ids = f.ids }
 
   pub frees_err : (e : A) (e' : B) → Frees {E = A} purge (Err e) m m' s s' k k' c d' → Frees {E = B} purge (Err e') m m' s s' k k' d d'
   frees_err e e' frees =
       let f = subst (λ (p : DualState). Frees {E = A} purge (Err e) m m' s s' k k' p d') same frees in
-      record { files = tt; first = f.first; append = f.append; tables = tt; apart = tt; idle = tt; counted = λ only. tt; stale = f.stale }
+      record { files = tt; first = f.first; append = f.append; tables = tt; apart = tt; idle = tt; counted = λ only. tt; stale = f.stale; ids = f.ids }

@@ -44,5 +44,7 @@ module _ {F H R W : Type 0} {g : Ghosts F H R W} where
     -- a refused call has dropped only files that the tables don't refer to
     pub lost : OnErr result (HasLostFront None new.log.tables (queue_of old) (queue_of new))
     pub rounds : new.rounds ≡ old.rounds
+    -- what is known of atomic groups stays, with the next id
+    pub known_groups : new.log.groups ≡ old.log.groups
     -- short calls of the Rewrite queue that were under way end with it
     pub renewal : LeavesNewFiles result None old.renewal new.renewal

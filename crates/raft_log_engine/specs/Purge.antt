@@ -154,6 +154,13 @@ MayLackId (RenewGroups x) groups = ids_bound groups.ids ≡ 2 ^ 64
 MayLackId (DropExpired x) groups = ids_bound groups.ids ≡ 2 ^ 64
 MayLackId _ groups = ⊥
 
+-- the purge writes no atomic group
+abbrev pub WritesNoAtomic : Purge → Type 0
+WritesNoAtomic (RewriteAppend scope) = Unit {0}
+WritesNoAtomic (RewriteGroups x) = Unit {0}
+WritesNoAtomic DropStale = Unit {0}
+WritesNoAtomic _ = ⊥
+
 -- short calls of a renewal continue with these new files, if there are some
 abbrev pub GoesOnFrom : Purge → Option NewFiles → Type 0
 GoesOnFrom (RenewGroups x) files = x.files ≡ files
@@ -219,6 +226,8 @@ pub record Frees {E : Type 0} (purge : Purge) (result : Result ℕ E) (m m' : Me
   -- a renewal starts its counters again at 0, and a drop of stale files moves and counts nothing
   pub counted : RewritesOnlyRewrite purge → OnOk result (deleted_count stats' ≡ 0)
   pub stale : purge ≡ DropStale → (m' ≡ m) × (stats' ≡ stats) × (groups' ≡ groups)
+  -- the next id stays if none is used
+  pub ids : WritesNoAtomic purge → groups' ≡ groups
 
 module _ {F H R W : Type 0} {g : Ghosts F H R W} where
   -- the tables of an engine

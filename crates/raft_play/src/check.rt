@@ -1,4 +1,4 @@
-//! What a check tells of an opening of the folders a and b, and whether the opening does it.
+//! What a check says of an opening of the folders a and b, and whether the opening does it.
 
 use crate::files::length;
 use raft_dump::Planned;
@@ -120,7 +120,7 @@ fn both_are_left<F: FileSystem>(
     )
 }
 
-// Whether an opening fails just where that was told, and leaves the files as planned.
+// Whether an opening fails exactly if the check said so, and leaves the files as planned.
 fn agrees<F: FileSystem + Drop>(
     alloc: Global,
     files: F,
@@ -135,7 +135,7 @@ fn agrees<F: FileSystem + Drop>(
     both_are_left(alloc, &mut left, checked, mode, opens)
 }
 
-fn told(alloc: Global, outlook: &Outlook) -> Result<String, AllocError> {
+fn outlook_text(alloc: Global, outlook: &Outlook) -> Result<String, AllocError> {
     let Outlook {
         fails,
         files,
@@ -151,7 +151,7 @@ fn told(alloc: Global, outlook: &Outlook) -> Result<String, AllocError> {
     }
 }
 
-fn told_if_done<F: FileSystem + Drop>(
+fn text_if_done<F: FileSystem + Drop>(
     alloc: Global,
     files: F,
     checked: &Checked,
@@ -159,13 +159,13 @@ fn told_if_done<F: FileSystem + Drop>(
 ) -> Result<String, Fault> {
     let outlook = outlook_of(alloc, checked, mode)?;
     Ok(if agrees(alloc, files, checked, mode, outlook.fails)? {
-        told(alloc, &outlook)?
+        outlook_text(alloc, &outlook)?
     } else {
         String::from_str(alloc, "otherwise")?
     })
 }
 
-/// What a check tells of an opening, if the opening then does it.
+/// What a check says of an opening, if the opening then does it.
 pub(crate) fn outlook<F: FileSystem + Drop>(
     alloc: Global,
     files: F,
@@ -173,7 +173,7 @@ pub(crate) fn outlook<F: FileSystem + Drop>(
 ) -> Result<String, Fault> {
     let mut files = files;
     match check_both(alloc, &mut files) {
-        Ok(checked) => told_if_done(alloc, files, &checked, mode),
+        Ok(checked) => text_if_done(alloc, files, &checked, mode),
         Err(fault) => Err(fault),
     }
 }

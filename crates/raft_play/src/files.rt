@@ -99,8 +99,12 @@ fn say_fork<F: FileSystem>(line: &mut Line, config: &Config, files: &mut F) {
     }
 }
 
-// What a check tells of an opening of a copy.
-fn told<F: Faulty>(alloc: Global, files: &F, mode: RecoveryMode) -> Result<String, Fault> {
+// What a check says of an opening of a copy.
+fn outlook_of_copy<F: Faulty>(
+    alloc: Global,
+    files: &F,
+    mode: RecoveryMode,
+) -> Result<String, Fault> {
     let copy = files.copied(alloc)?;
     outlook(alloc, copy, mode)
 }
@@ -109,7 +113,7 @@ fn agree<F: Faulty>(line: &mut Line, files: &F) {
     let Some(mode) = mode_of(line.text(0)) else {
         return line.bad();
     };
-    match told(line.alloc, files, mode) {
+    match outlook_of_copy(line.alloc, files, mode) {
         Ok(text) => line.said.say(text.as_str()),
         Err(fault) => line.refuse(fault),
     }
@@ -165,7 +169,7 @@ fn count<F: FileSystem>(line: &mut Line, files: &mut F, asked: CountLine) {
     }
 }
 
-/// What files answer, where these are the settings.
+/// Does what a line asks of files, where these are the settings.
 pub(crate) fn answer<F: Faulty>(line: &mut Line, config: &Config, files: &mut F, asked: FilesLine) {
     match asked {
         FilesLine::Change(asked) => change(line, files, asked),

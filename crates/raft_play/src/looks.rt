@@ -123,7 +123,7 @@ fn entry_at<F: FileSystem>(line: &mut Line, engine: &mut Engine<F>) -> Result<()
     Ok(())
 }
 
-// What a fetch answers, and how many entries it hands over. Each of them is also lent.
+// The result of a fetch, and how many entries it hands over. Each of them is also lent.
 fn fetch<F: FileSystem>(line: &mut Line, engine: &mut Engine<F>) -> Result<(), Fault> {
     let group = line.number(0);
     let (begin, end) = line.pair(1);
@@ -199,7 +199,7 @@ fn of_whole<F: FileSystem>(said: &mut Said, engine: &Engine<F>, asked: WholeLine
     }
 }
 
-/// What an engine answers.
+/// Says what an engine holds.
 pub(crate) fn answer<F: FileSystem>(line: &mut Line, engine: &mut Engine<F>, asked: LookLine) {
     match asked {
         LookLine::Found => found(line, engine),

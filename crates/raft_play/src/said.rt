@@ -81,7 +81,7 @@ impl Said {
     }
 
     /// Bytes as one word after a text: as text where all are graphic signs, else as hexadecimal
-    /// digits; one byte that stands more than eight times is said once, with `*N`.
+    /// digits; one byte that occurs more than eight times is said once, with `*N`.
     pub(crate) fn spell(&mut self, front: &str, all: &[u8]) {
         self.say(front);
         let is_one = all.len() > 8 && are_same(all);

@@ -232,7 +232,7 @@ impl Session {
         }
     }
 
-    // A line of `raftlog` is taken as it stands.
+    // A line of `raftlog` is taken as it is.
     fn answer_printed(&mut self, asked: &str) {
         match asked.strip_prefix("< ") {
             Some(text) => {

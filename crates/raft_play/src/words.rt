@@ -1,5 +1,5 @@
 //! Bytes as words: parts joined by `+`, each of which is text, `0x` and hexadecimal digits, or `$` and
-//! a name; `*N` behind a part repeats it.
+//! a name; `*N` after a part repeats it.
 
 use hex::FromHexError;
 use raft_test_rows::number_of;
@@ -8,7 +8,7 @@ use std::alloc::{AllocError, AllocFailed, Global};
 /// Bytes that a line gave a name.
 pub(crate) type Names = Vec<(String, Vec<u8>)>;
 
-/// Why a word stands for no bytes.
+/// Why a word means no bytes.
 #[derive(Clone, Copy)]
 pub(crate) enum Misspelled {
     Memory,
@@ -72,7 +72,7 @@ fn add_part(
     }
 }
 
-// A part, and how often it stands.
+// A part, and how often it is repeated.
 fn repeated(part: &str) -> (&str, Option<u64>) {
     match part.split_once('*') {
         Some((part, times)) => (part, number_of(times.as_bytes())),
@@ -95,7 +95,7 @@ fn add_parts(
     Ok(())
 }
 
-/// The bytes that a word stands for.
+/// The bytes that a word means.
 pub(crate) fn bytes_of(alloc: Global, names: &Names, word: &str) -> Result<Vec<u8>, Misspelled> {
     let mut bytes = Vec::new(alloc);
     for part in word.split('+') {

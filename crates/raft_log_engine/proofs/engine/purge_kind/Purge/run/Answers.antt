@@ -54,6 +54,7 @@ returns-in-RewriteAppend-clause-frees g c =
       idle = if_ok c.rewrite_append_queue.result _ (λ never. absurd never);
       counted = λ never. absurd never;
       stale = λ is. absurd (let clash = is in cc);
+      ids = λ none. done.known;
     })
 
 -- .. of some groups.
@@ -93,6 +94,7 @@ returns-in-RewriteGroups-clause-frees g c =
       idle = if_ok c.rewrite_append_groups.result _ (λ never. absurd never);
       counted = λ never. absurd never;
       stale = λ is. absurd (let clash = is in cc);
+      ids = λ none. done.known;
     })
 
 -- A rewriting of the Rewrite queue, whose log is kept whichever marks are owed.
@@ -125,6 +127,7 @@ returns-in-RewriteRewrite-clause-frees g c =
       idle = if_ok c.rewrite_rewrite_queue.result _ (λ never. absurd never);
       counted = λ only. done.stats;
       stale = λ is. absurd (let clash = is in cc);
+      ids = λ never. absurd never;
     })
 
 pub returns-in-RewriteRewrite-clause-together : goal.returns-in-RewriteRewrite-clause-together
@@ -166,6 +169,7 @@ returns-in-RenewGroups-clause-frees g c =
       idle = if_ok c.rewrite_rewrite_groups.result _ (λ never. absurd never);
       counted = λ last. on_ok_weaker c.rewrite_rewrite_groups.result (λ stats. stats last) done.stats;
       stale = λ is. absurd (let clash = is in cc);
+      ids = λ never. absurd never;
     })
 
 pub returns-in-RenewGroups-clause-together : goal.returns-in-RenewGroups-clause-together
@@ -203,6 +207,7 @@ returns-in-DropStale-clause-frees g c =
       idle = if_ok c.purge_all_stale.result _ (λ never. absurd never);
       counted = λ never. absurd never;
       stale = λ is. (refl, refl, refl);
+      ids = λ none. refl;
     })
 
 -- A purge by watermarks.
@@ -231,6 +236,7 @@ returns-in-DropExpired-clause-frees g c =
       idle = done.idle;
       counted = λ only. on_ok_weaker c.purge.result (λ stats. stats only.0 only.1) done.stats;
       stale = λ is. absurd (let clash = is in cc);
+      ids = λ never. absurd never;
     })
 
 -- Which new files of the Rewrite queue stand behind it.
