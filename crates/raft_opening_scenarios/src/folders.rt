@@ -1,11 +1,11 @@
 //! Folders that are opened in order and by workers, with the same result.
 
 use crate::stored::{HEADER_2, Stored};
-use raft_test_rows::{Change, EXPIRED, OPERATIONS, PURGES, Plan};
+use raft_test_rows::{Change, Plan, Sequence, plans_in};
 
 /// Of each value of 1 KB a log file is full: eight files of the Append queue, and, once the first ones are rewritten, two
 /// of the Rewrite queue.
-const MANY: [Plan; 10] = [
+static MANY: [Plan; 10] = [
     Plan::Write(
         &[
             Change::Entries(3, 1, 4, b"x"),
@@ -79,26 +79,63 @@ const ONE_AND_TWO: &[u8] =
 const FIVE_AND_THREE: &[u8] =
     b"\x00\x00\x00\x00\x00\x00\x21\x00\x00\x00\x00\x00\x00\x00\x00\x10\x02\x01\x01\x02\x05\x00\x00\x01\x01\x02\x03\x00\x00\xd1\x79\x12\x25";
 
-const COMPACTED: [Stored; 2] = [
+static COMPACTED: [Stored; 2] = [
     (LOG_1, &[HEADER_2, ONE_TO_TEN]),
     (LOG_2, &[HEADER_2, FIVE_AND_NINE]),
 ];
 
-const HOLED: [Stored; 2] = [
+static HOLED: [Stored; 2] = [
     (LOG_1, &[HEADER_2, ONE_AND_TWO]),
     (LOG_2, &[HEADER_2, FIVE_AND_THREE]),
 ];
 
-/// What fills a folder.
+/// Operations.
+#[derive(Clone, Copy)]
+pub(crate) enum Script {
+    Of(Sequence),
+    Many,
+}
+
+/// Files, of which each is a chunk of its own. The newer one has a compaction between entries, or entries after a hole and
+/// others before them.
+#[derive(Clone, Copy)]
+pub(crate) enum Chunks {
+    Compacted,
+    Holed,
+}
+
+/// What fills a folder: operations, of which none is done from a change on, or files.
+#[derive(Clone, Copy)]
 pub(crate) enum Filling {
-    /// Operations; from this change on none is done.
-    Done(&'static [Plan], u64),
-    /// Files, of which each is a chunk of its own, and the indexes of the entries that group 1 then has.
-    Stored(&'static [Stored], &'static [u64]),
+    Done(Script, u64),
+    Stored(Chunks),
 }
 
 /// The eight files and two.
-pub(crate) const WHOLE: Filling = Filling::Done(&MANY, u64::MAX);
+pub(crate) const WHOLE: Filling = Filling::Done(Script::Many, u64::MAX);
+
+/// The operations: tables are named by functions of their own, since a proof has all of a table at each step.
+pub(crate) fn plans_of(script: Script) -> &'static [Plan] {
+    match script {
+        Script::Of(sequence) => plans_in(sequence),
+        Script::Many => MANY.as_slice(),
+    }
+}
+
+pub(crate) fn files_of(chunks: Chunks) -> &'static [Stored] {
+    match chunks {
+        Chunks::Compacted => COMPACTED.as_slice(),
+        Chunks::Holed => HOLED.as_slice(),
+    }
+}
+
+/// The indexes of the two entries that group 1 then has.
+pub(crate) fn indexes_of(chunks: Chunks) -> [u64; 2] {
+    match chunks {
+        Chunks::Compacted => [9, 10],
+        Chunks::Holed => [3, 4],
+    }
+}
 
 /// A name, what fills the folder, the paths and places of bytes that are broken then, and whether the files crash in three
 /// ways, or all their bytes are left.
@@ -109,69 +146,79 @@ pub(crate) struct Folder(
     pub(crate) bool,
 );
 
-pub(crate) static FOLDERS: [Folder; 22] = [
+static FOLDERS: [Folder; 22] = [
     Folder(
         "operations, up to change 21",
-        Filling::Done(&OPERATIONS, 21),
+        Filling::Done(Script::Of(Sequence::Operations), 21),
         &[],
         true,
     ),
     Folder(
         "operations, up to change 47",
-        Filling::Done(&OPERATIONS, 47),
+        Filling::Done(Script::Of(Sequence::Operations), 47),
         &[],
         true,
     ),
     Folder(
         "operations",
-        Filling::Done(&OPERATIONS, u64::MAX),
+        Filling::Done(Script::Of(Sequence::Operations), u64::MAX),
         &[],
         true,
     ),
     Folder(
         "purges, up to change 21",
-        Filling::Done(&PURGES, 21),
+        Filling::Done(Script::Of(Sequence::Purges), 21),
         &[],
         true,
     ),
     Folder(
         "purges, up to change 47",
-        Filling::Done(&PURGES, 47),
+        Filling::Done(Script::Of(Sequence::Purges), 47),
         &[],
         true,
     ),
-    Folder("purges", Filling::Done(&PURGES, u64::MAX), &[], true),
+    Folder(
+        "purges",
+        Filling::Done(Script::Of(Sequence::Purges), u64::MAX),
+        &[],
+        true,
+    ),
     Folder(
         "purges by watermarks, up to change 21",
-        Filling::Done(&EXPIRED, 21),
+        Filling::Done(Script::Of(Sequence::Expired), 21),
         &[],
         true,
     ),
     Folder(
         "purges by watermarks, up to change 47",
-        Filling::Done(&EXPIRED, 47),
+        Filling::Done(Script::Of(Sequence::Expired), 47),
         &[],
         true,
     ),
     Folder(
         "purges by watermarks",
-        Filling::Done(&EXPIRED, u64::MAX),
+        Filling::Done(Script::Of(Sequence::Expired), u64::MAX),
         &[],
         true,
     ),
     Folder(
         "many files, up to change 21",
-        Filling::Done(&MANY, 21),
+        Filling::Done(Script::Many, 21),
         &[],
         true,
     ),
     Folder(
         "many files, up to change 47",
-        Filling::Done(&MANY, 47),
+        Filling::Done(Script::Many, 47),
         &[],
         true,
     ),
-    Folder("many files", Filling::Done(&MANY, u64::MAX), &[], true),
+    Folder(
+        "many files",
+        Filling::Done(Script::Many, u64::MAX),
+        &[],
+        true,
+    ),
     // The same files with bytes broken.
     Folder("none", WHOLE, &[], false),
     Folder("a header of the first file", WHOLE, &[(LOG_1, 3)], false),
@@ -195,14 +242,18 @@ pub(crate) static FOLDERS: [Folder; 22] = [
     // others before them.
     Folder(
         "a compaction between entries",
-        Filling::Stored(&COMPACTED, &[9, 10]),
+        Filling::Stored(Chunks::Compacted),
         &[],
         false,
     ),
     Folder(
         "entries after a hole",
-        Filling::Stored(&HOLED, &[3, 4]),
+        Filling::Stored(Chunks::Holed),
         &[],
         false,
     ),
 ];
+
+pub(crate) fn all_folders() -> &'static [Folder] {
+    FOLDERS.as_slice()
+}

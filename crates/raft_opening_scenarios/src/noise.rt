@@ -3,7 +3,7 @@
 ghost use Rattle.std.specs.Prelude.{◌<◌};
 
 use crate::openings::{ABSOLUTE, ANY, MODES, TAIL, break_byte};
-use crate::stored::{ALL, HEADER_2, THREE, make};
+use crate::stored::{ALL, HEADER_2, make, three_files};
 use raft_env::{FileSystem, FsFault};
 use raft_rows::store;
 use raft_test_rows::{EMPTY, Faulty, Held, RecoveryMode, State};
@@ -53,6 +53,10 @@ static PLACES: [Places; 4] = [
     },
 ];
 
+fn all_places() -> &'static [Places] {
+    PLACES.as_slice()
+}
+
 // What is found of three files, the one of this place in the list broken.
 fn found_without(mode: RecoveryMode, file: usize) -> Result<State, u8>
     requires { file < 3 }
@@ -61,6 +65,13 @@ fn found_without(mode: RecoveryMode, file: usize) -> Result<State, u8>
         RecoveryMode::AbsoluteConsistency => Err(2),
         RecoveryMode::TolerateTailCorruption if file + 1 < WITHOUT.len() => Err(2),
         _ => Ok(WITHOUT[file]),
+    }
+}
+
+fn is_broken_at<F: FileSystem>(files: &mut F, file: usize, at: usize) -> bool {
+    match three_files().get(file) {
+        Some(stored) => break_byte(files, stored.0, at).is_ok(),
+        None => false,
     }
 }
 
@@ -75,11 +86,11 @@ fn is_broken_so<F: Faulty>(
     requires { file < 3 }
 {
     held.renew(alloc);
-    if make(held, THREE).is_none() {
+    if make(held, three_files()).is_none() {
         return false;
     }
     let is_changed = match held.files() {
-        Some(files) => break_byte(files, THREE[file].0, at).is_ok(),
+        Some(files) => is_broken_at(files, file, at),
         None => false,
     };
     let wanted = if is_broken {
@@ -95,7 +106,7 @@ pub(crate) fn wrong_byte<F: Faulty>(
     alloc: Global,
     held: &mut Held<F>,
 ) -> Option<(&'static str, usize)> {
-    for row in &PLACES {
+    for row in all_places() {
         for at in row.first..row.end {
             for file in 0..WITHOUT.len() {
                 for mode in &MODES {
@@ -157,6 +168,11 @@ static NOISE: [Noise; 4] = [
     },
 ];
 
+// Tables are named by functions, since a proof has all of a table at each step.
+fn all_noise() -> &'static [Noise] {
+    NOISE.as_slice()
+}
+
 /// How many files of each kind, each longer than the one before.
 const LENGTHS: usize = 60;
 
@@ -215,7 +231,7 @@ pub(crate) fn wrong_length<F: Faulty>(
     alloc: Global,
     held: &mut Held<F>,
 ) -> Option<(&'static str, usize)> {
-    for row in &NOISE {
+    for row in all_noise() {
         for len in 1..LENGTHS {
             for (mode, wanted) in row.found {
                 if !is_found(alloc, held, row, len, *mode, wanted) {

@@ -2,7 +2,7 @@
 
 use crate::openings::{ABSOLUTE, ANY, TAIL};
 use crate::stored::{
-    ALL, BROKEN_2, HEADER_2, HEADER_MOVED, PUT_1, PUT_2, PUT_3, Stored, THREE, have, make,
+    ALL, BROKEN_2, HEADER_2, HEADER_MOVED, PUT_1, PUT_2, PUT_3, Stored, have, make, three_files,
 };
 use raft_env::IoKind;
 use raft_memory::FsCall;
@@ -22,6 +22,10 @@ const BROKEN: &[Stored] = &[
         &[HEADER_2, PUT_3, &[0; 40]],
     ),
 ];
+
+fn broken_files() -> &'static [Stored] {
+    BROKEN
+}
 
 const MAX_CALLS: u64 = 20;
 
@@ -79,7 +83,7 @@ fn cuts_nothing<F: Faulty>(
     mode: RecoveryMode,
     failing: Failing,
 ) -> Option<bool> {
-    let count = make(held, THREE)?;
+    let count = make(held, three_files())?;
     if !held.fail(failing) || !held.open(alloc, mode) {
         return None;
     }
@@ -87,7 +91,7 @@ fn cuts_nothing<F: Faulty>(
         Some(fault) => is_refusal(fault),
         None => return Some(false),
     };
-    let is_untouched = is_right && have(alloc, held, THREE, count);
+    let is_untouched = is_right && have(alloc, held, three_files(), count);
     if is_untouched && held.open(alloc, mode) && held.has_come_to(&Ok(ALL)) {
         Some(true)
     } else {
@@ -104,7 +108,7 @@ fn finds_rest<F: Faulty>(
     failing: Failing,
     left: &Left,
 ) -> Option<bool> {
-    let is_broken = make(held, BROKEN).is_some() && held.crash(alloc, &Left::All);
+    let is_broken = make(held, broken_files()).is_some() && held.crash(alloc, &Left::All);
     if !is_broken || !held.fail(failing) || !held.open(alloc, mode) {
         return None;
     }

@@ -1,6 +1,6 @@
 //! Workers find, cut and refuse what an opening in order does.
 
-use crate::folders::{FOLDERS, Filling, Folder, LOG_8, WHOLE};
+use crate::folders::{Filling, Folder, LOG_8, WHOLE, all_folders, files_of, indexes_of, plans_of};
 use crate::openings::{
     ANY, MODES, are_done, break_byte, have_same_answers, have_same_files, open_by_workers, tell,
 };
@@ -76,13 +76,13 @@ fn stores<F: Faulty>(held: &mut Held<F>, stored: &[Stored]) -> bool {
 }
 
 // Fills new files: whether there was memory.
-fn fills<F: Faulty>(alloc: Global, held: &mut Held<F>, filling: &Filling) -> bool {
+fn fills<F: Faulty>(alloc: Global, held: &mut Held<F>, filling: Filling) -> bool {
     held.renew(alloc);
     match filling {
-        Filling::Done(plans, stop) => {
-            held.fail(Failing::From(*stop)) && are_done(alloc, held, plans)
+        Filling::Done(script, stop) => {
+            held.fail(Failing::From(stop)) && are_done(alloc, held, plans_of(script))
         }
-        Filling::Stored(stored, _) => stores(held, stored),
+        Filling::Stored(chunks) => stores(held, files_of(chunks)),
     }
 }
 
@@ -155,18 +155,20 @@ fn finds<F: Faulty>(
     }
 }
 
+fn finds_in_each<F: Faulty>(alloc: Global, trio: &mut Trio<F>, indexes: &[u64]) -> bool {
+    for mode in &MODES {
+        if !finds(alloc, trio, *mode, indexes) {
+            return false;
+        }
+    }
+    true
+}
+
 // .. in each mode, if the files were stored.
-fn finds_stored<F: Faulty>(alloc: Global, trio: &mut Trio<F>, filling: &Filling) -> bool {
+fn finds_stored<F: Faulty>(alloc: Global, trio: &mut Trio<F>, filling: Filling) -> bool {
     match filling {
         Filling::Done(_, _) => true,
-        Filling::Stored(_, indexes) => {
-            for mode in &MODES {
-                if !finds(alloc, trio, *mode, indexes) {
-                    return false;
-                }
-            }
-            true
-        }
+        Filling::Stored(chunks) => finds_in_each(alloc, trio, &indexes_of(chunks)),
     }
 }
 
@@ -184,9 +186,9 @@ fn wrong_in<R: Threads + Sync, F: Faulty>(
     trio: &mut Trio<F>,
     folder: &Folder,
 ) -> Option<usize> {
-    let is_filled = fills(alloc, &mut trio.filled, &folder.1)
+    let is_filled = fills(alloc, &mut trio.filled, folder.1)
         && breaks(&mut trio.filled, folder.2)
-        && finds_stored(alloc, trio, &folder.1);
+        && finds_stored(alloc, trio, folder.1);
     if !is_filled {
         return Some(0);
     }
@@ -259,7 +261,7 @@ fn wrong_reads<R: Threads + Sync, F: Faulty>(
     alloc: Global,
     trio: &mut Trio<F>,
 ) -> Option<usize> {
-    if !fills(alloc, &mut trio.filled, &WHOLE) || !breaks(&mut trio.filled, &[(LOG_8, 90)]) {
+    if !fills(alloc, &mut trio.filled, WHOLE) || !breaks(&mut trio.filled, &[(LOG_8, 90)]) {
         return Some(0);
     }
     for workers in &WORKERS {
@@ -275,7 +277,7 @@ fn wrong_row<R: Threads + Sync, F: Faulty>(
     alloc: Global,
     trio: &mut Trio<F>,
 ) -> Option<(&'static str, usize)> {
-    for folder in &FOLDERS {
+    for folder in all_folders() {
         if let Some(workers) = wrong_in(rt, alloc, trio, folder) {
             return Some((folder.0, workers));
         }

@@ -32,11 +32,16 @@ pub(crate) const BROKEN_2: &[u8] =
 pub(crate) type Stored = (&'static str, &'static [&'static [u8]]);
 
 /// Files 1, 2 and 3, one put each.
-pub(crate) const THREE: &[Stored] = &[
+const THREE: &[Stored] = &[
     ("raft/0000000000000001.raftlog", &[HEADER_2, PUT_1]),
     ("raft/0000000000000002.raftlog", &[HEADER_2, PUT_2]),
     ("raft/0000000000000003.raftlog", &[HEADER_2, PUT_3]),
 ];
+
+/// .. by a function, since a proof has all of a table at each step.
+pub(crate) fn three_files() -> &'static [Stored] {
+    THREE
+}
 
 /// What an opening finds in them.
 pub(crate) const ALL: State = State {

@@ -1,7 +1,7 @@
 //! An engine that does a list, what it comes to, and what is found after crashes.
 
 use crate::answers::are_told;
-use crate::lists::{List, Sort, open, renew};
+use crate::lists::{List, Sort, open, plans_of, renew};
 use raft_env::{FileSystem, IoKind};
 use raft_records::Fault;
 use raft_test_rows::{
@@ -157,7 +157,7 @@ impl<F: Faulty> Bench<F> {
 }
 
 fn work_of(alloc: Global, list: &List) -> Option<Work> {
-    match ops_of(alloc, list.plans) {
+    match ops_of(alloc, plans_of(list.script)) {
         Ok(ops) => Some(Work {
             sort: list.sort,
             ops,

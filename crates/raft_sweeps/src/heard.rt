@@ -221,6 +221,10 @@ static CALLS: [Heard; 18] = [
     Heard(1024, &[], TEN_PURGES, KEEPS_20, 199_199, Some(20)),
 ];
 
+fn rows() -> &'static [Heard] {
+    CALLS.as_slice()
+}
+
 fn put(alloc: Global, batch: &mut LogBatch, key: u8) -> Result<(), Fault> {
     batch.put(1, vec![in alloc; key]?, vec![in alloc; 8]?)
 }
@@ -460,7 +464,7 @@ fn wrong_row<F: Faulty>(
     held: &mut Held<F>,
     heard: &Arc<AtomicU64>,
 ) -> Option<usize> {
-    for (place, row) in CALLS.iter().enumerate() {
+    for (place, row) in rows().iter().enumerate() {
         if !is_heard(alloc, held, heard, row) {
             return Some(place);
         }

@@ -1,13 +1,13 @@
 //! Lists of operations, their settings and the files before them.
 
 use raft_records::ReadableSize;
-use raft_test_rows::{Change, Config, EXPIRED, Faulty, Held, OPERATIONS, PURGES, Plan, settings};
+use raft_test_rows::{Change, Config, Faulty, Held, Plan, Sequence, plans_in, settings};
 use std::alloc::{AllocError, Global};
 
 /// Two sittings with a close at each sync. Of each value of 250 bytes a log file is full. Files 1 to 3 are dropped, of which
 /// two have room beside a reserved one, and become files 6 and 7; then files 4 and 5 are, which a close gives reserved
 /// names. In the second sitting next files are made of these.
-const SITTINGS: [Plan; 19] = [
+static SITTINGS: [Plan; 19] = [
     Plan::Write(
         &[Change::Put(1, b"a", &[1; 250]), Change::Put(2, b"c", &[1])],
         false,
@@ -52,10 +52,25 @@ pub(crate) enum Sort {
     InTwoFolders,
 }
 
+/// Which operations a list has.
+#[derive(Clone, Copy)]
+pub(crate) enum Script {
+    Of(Sequence),
+    Sittings,
+}
+
+/// The operations: tables are named by functions of their own, since a proof has all of a table at each step.
+pub(crate) fn plans_of(script: Script) -> &'static [Plan] {
+    match script {
+        Script::Of(sequence) => plans_in(sequence),
+        Script::Sittings => SITTINGS.as_slice(),
+    }
+}
+
 /// Operations, and how they are done.
 pub(crate) struct List {
     pub(crate) name: &'static str,
-    pub(crate) plans: &'static [Plan],
+    pub(crate) script: Script,
     pub(crate) sort: Sort,
     /// So many calls at least change files if a crash leaves up to `kept` of the touched bytes of each file. Where dropped
     /// files are used again these are files of both queues and four reserved ones, with a write each, and of the seven
@@ -65,43 +80,47 @@ pub(crate) struct List {
 }
 
 /// `raft_trials` stops the plain lists.
-pub(crate) static LISTS: [List; 5] = [
+static LISTS: [List; 5] = [
     List {
         name: "operations",
-        plans: &OPERATIONS,
+        script: Script::Of(Sequence::Operations),
         sort: Sort::Plain,
         changes: 0,
         kept: 0,
     },
     List {
         name: "purges",
-        plans: &PURGES,
+        script: Script::Of(Sequence::Purges),
         sort: Sort::Plain,
         changes: 0,
         kept: 0,
     },
     List {
         name: "purges by watermarks",
-        plans: &EXPIRED,
+        script: Script::Of(Sequence::Expired),
         sort: Sort::Plain,
         changes: 0,
         kept: 0,
     },
     List {
         name: "recycling",
-        plans: &SITTINGS,
+        script: Script::Sittings,
         sort: Sort::Recycling,
         changes: 126,
         kept: 65,
     },
     List {
         name: "recycling in two folders",
-        plans: &SITTINGS,
+        script: Script::Sittings,
         sort: Sort::InTwoFolders,
         changes: 50,
         kept: 1,
     },
 ];
+
+pub(crate) fn all_lists() -> &'static [List] {
+    LISTS.as_slice()
+}
 
 // A log file is full at 256 bytes, and three of them are purged; reserved files are made ahead.
 fn recycling(alloc: Global) -> Result<Config, AllocError> {

@@ -2,7 +2,7 @@
 
 use crate::answers::begin_as_wanted;
 use crate::bench::{Bench, Work, work_at};
-use crate::lists::{LISTS, List, Sort};
+use crate::lists::{List, Sort, all_lists};
 use raft_env::IoKind;
 use raft_memory::{FsCall, MemoryFileSystem};
 use raft_test_rows::{CALLS, Failing, Faulty, Left, Outcome, first_refused};
@@ -123,7 +123,7 @@ fn wrong_of<F: Faulty>(alloc: Global, bench: &mut Bench<F>, list: &List) -> Opti
 }
 
 fn wrong_list<F: Faulty>(alloc: Global, bench: &mut Bench<F>) -> Option<(&'static str, Refusal)> {
-    for list in &LISTS {
+    for list in all_lists() {
         if let Some(refusal) = wrong_of(alloc, bench, list) {
             return Some((list.name, refusal));
         }

@@ -1,7 +1,7 @@
 //! Lists whose dropped files are used again, stopped at each call that changes files, and then crashed in many ways.
 
 use crate::bench::{Bench, Work, work_at};
-use crate::lists::{LISTS, List};
+use crate::lists::{List, all_lists};
 use raft_memory::MemoryFileSystem;
 use raft_test_rows::{Failing, Faulty, Left};
 use std::alloc::{AllocError, Global};
@@ -73,7 +73,7 @@ fn stops_rightly<F: Faulty>(alloc: Global, bench: &mut Bench<F>, list: &List) ->
 }
 
 fn wrong_list<F: Faulty>(alloc: Global, bench: &mut Bench<F>) -> Option<&'static str> {
-    for list in &LISTS {
+    for list in all_lists() {
         if list.kept > 0 && !stops_rightly(alloc, bench, list) {
             return Some(list.name);
         }

@@ -14,6 +14,6 @@ pub use raft_log_engine::{Config, Engine, Image, RecoveryMode, Refused};
 pub use raft_script::{Op, Outcome, TextEntry, Trial, number_of, run, step, trial, trial_twice};
 pub use runs::{CALLS, Ran, is_refusal, run_held};
 pub use states::{
-    EMPTY, EXPIRED, MAX_FILES, OPERATIONS, PURGES, REWRITTEN_IN_PARTS, State, after, are_new,
-    count_below, first_refused, is_allowed, is_done, settings, settings_in, state_of, value_of,
+    EMPTY, MAX_FILES, Sequence, State, after, are_new, count_below, first_refused, is_allowed,
+    is_done, plans_in, settings, settings_in, state_of, value_of,
 };

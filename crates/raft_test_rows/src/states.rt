@@ -349,7 +349,7 @@ pub fn settings_in(alloc: Global, mode: RecoveryMode) -> Result<Config, AllocErr
 
 /// Operations on the four keys and the entries. With these settings they fill three files, and what is read of an entry
 /// last stands in one before.
-pub const OPERATIONS: [Plan; 15] = [
+static OPERATIONS: [Plan; 15] = [
     Plan::Write(&[Change::Put(1, b"a", &[1])], true),
     Plan::Write(
         &[Change::Put(1, b"b", &[2; 40]), Change::Put(2, b"c", &[3])],
@@ -381,7 +381,7 @@ pub const OPERATIONS: [Plan; 15] = [
 
 /// Operations on the same keys and entries, with each purge of them: keys that are put again, deleted and cleaned,
 /// entries that are written again and compacted, what was rewritten once rewritten again, and what was removed since.
-pub const PURGES: [Plan; 14] = [
+static PURGES: [Plan; 14] = [
     Plan::Write(
         &[Change::Put(1, b"a", &[1; 900]), Change::Put(2, b"c", &[1])],
         false,
@@ -414,7 +414,7 @@ pub const PURGES: [Plan; 14] = [
 
 /// .. with purges of what the queues need: of the Append queue each time, of the Rewrite queue once most of what was
 /// rewritten is garbage.
-pub const EXPIRED: [Plan; 13] = [
+static EXPIRED: [Plan; 13] = [
     Plan::Write(
         &[
             Change::Put(1, b"a", &[1; 900]),
@@ -450,8 +450,27 @@ pub const EXPIRED: [Plan; 13] = [
 ];
 
 /// Entries of one group that are too many for one batch where they are rewritten first.
-pub const REWRITTEN_IN_PARTS: [Plan; 3] = [
+static REWRITTEN_IN_PARTS: [Plan; 3] = [
     Plan::Write(&[Change::LongEntries(3, 1, 3, b'x', 66_000)], true),
     Plan::RewriteAppend(None, None),
     Plan::RewriteRewrite,
 ];
+
+/// The lists of operations.
+#[derive(Clone, Copy)]
+pub enum Sequence {
+    Operations,
+    Purges,
+    Expired,
+    InParts,
+}
+
+/// The operations of a list: the one call that names their table, since a proof has all of it at each step.
+pub fn plans_in(sequence: Sequence) -> &'static [Plan] {
+    match sequence {
+        Sequence::Operations => OPERATIONS.as_slice(),
+        Sequence::Purges => PURGES.as_slice(),
+        Sequence::Expired => EXPIRED.as_slice(),
+        Sequence::InParts => REWRITTEN_IN_PARTS.as_slice(),
+    }
+}

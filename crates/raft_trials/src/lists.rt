@@ -3,8 +3,7 @@
 use raft_allowed::allowed;
 use raft_records::{Fault, ReadableSize};
 use raft_test_rows::{
-    Change, Config, EXPIRED, Image, Left, OPERATIONS, Op, Outcome, PURGES, Plan,
-    REWRITTEN_IN_PARTS, op_of, ops_of, settings,
+    Change, Config, Image, Left, Op, Outcome, Plan, Sequence, op_of, ops_of, plans_in, settings,
 };
 use std::alloc::{AllocError, Global};
 
@@ -36,7 +35,7 @@ pub(crate) struct CameTo<'a> {
 
 /// A synced put, entries, and what replaces and removes some, among purges; each file is full after
 /// one or two writes.
-const MIXED: [Plan; 11] = [
+static MIXED: [Plan; 11] = [
     Plan::Write(&[Change::Put(1, b"a", &[b'a'; 300])], true),
     Plan::Write(&[Change::Entries(2, 1, 40, &[b'x'; 57])], false),
     Plan::RewriteAppend(None, None),
@@ -51,7 +50,7 @@ const MIXED: [Plan; 11] = [
 ];
 
 /// Groups of batches that go to next files.
-const GROUPED: [Plan; 3] = [
+static GROUPED: [Plan; 3] = [
     Plan::WriteGroup(&[
         (&[Change::Put(1, b"a", &[1; 500])], false),
         (&[Change::Entries(3, 1, 3, b"x")], true),
@@ -68,7 +67,7 @@ const GROUPED: [Plan; 3] = [
 ];
 
 /// What stands at its end: a put, or twice a put with the same number.
-const LAST: [Plan; 1] = [Plan::Write(&[Change::Put(1, b"b", b"b")], false)];
+static LAST: [Plan; 1] = [Plan::Write(&[Change::Put(1, b"b", b"b")], false)];
 
 /// The write, where there are numbers as one that acts once with them.
 pub(crate) fn numbered(alloc: Global, op: Op, pairs: &[(u64, u64)]) -> Result<Op, AllocError> {
@@ -81,28 +80,47 @@ pub(crate) fn numbered(alloc: Global, op: Op, pairs: &[(u64, u64)]) -> Result<Op
     }
 }
 
+/// Which operations.
+#[derive(Clone, Copy)]
+enum Script {
+    Mixed,
+    Grouped,
+    Of(Sequence),
+}
+
+// Tables are named by functions of their own, since a proof has all of a table at each step.
+fn plans_of(script: Script) -> &'static [Plan] {
+    match script {
+        Script::Mixed => MIXED.as_slice(),
+        Script::Grouped => GROUPED.as_slice(),
+        Script::Of(sequence) => plans_in(sequence),
+    }
+}
+
+fn last_plans() -> &'static [Plan] {
+    LAST.as_slice()
+}
+
 /// A name, operations, how often `LAST` follows them and with which numbers, and the KB of
 /// files above which they purge.
-struct Named(
-    &'static str,
-    &'static [Plan],
-    u64,
-    &'static [(u64, u64)],
-    u64,
-);
+struct Named(&'static str, Script, u64, &'static [(u64, u64)], u64);
 
 static NAMED: [Named; 7] = [
-    Named("put", &MIXED, 1, &[], 3),
-    Named("once", &MIXED, 2, &[(1, 7)], 3),
-    Named("keys", &OPERATIONS, 0, &[], 1),
-    Named("groups", &GROUPED, 0, &[], 1),
-    Named("purges", &PURGES, 0, &[], 1),
-    Named("watermarks", &EXPIRED, 0, &[], 1),
-    Named("parts", &REWRITTEN_IN_PARTS, 0, &[], 1),
+    Named("put", Script::Mixed, 1, &[], 3),
+    Named("once", Script::Mixed, 2, &[(1, 7)], 3),
+    Named("keys", Script::Of(Sequence::Operations), 0, &[], 1),
+    Named("groups", Script::Grouped, 0, &[], 1),
+    Named("purges", Script::Of(Sequence::Purges), 0, &[], 1),
+    Named("watermarks", Script::Of(Sequence::Expired), 0, &[], 1),
+    Named("parts", Script::Of(Sequence::InParts), 0, &[], 1),
 ];
 
+fn all_named() -> &'static [Named] {
+    NAMED.as_slice()
+}
+
 fn row_named(name: &str) -> Option<&'static Named> {
-    for row in &NAMED {
+    for row in all_named() {
         if row.0 == name {
             return Some(row);
         }
@@ -111,9 +129,9 @@ fn row_named(name: &str) -> Option<&'static Named> {
 }
 
 fn ops_in(alloc: Global, row: &Named) -> Result<Vec<Op>, AllocError> {
-    let mut ops = ops_of(alloc, row.1)?;
+    let mut ops = ops_of(alloc, plans_of(row.1))?;
     for _ in 0..row.2 {
-        for plan in &LAST {
+        for plan in last_plans() {
             ops.push(numbered(alloc, op_of(alloc, plan)?, row.3)?)?;
         }
     }

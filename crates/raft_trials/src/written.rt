@@ -54,7 +54,7 @@ const ENTRIES: Row = Row(2, 1, b"ww", &[]);
 /// The key at which a group keeps its number.
 const NUMBER: &[u8] = b"\xffonce";
 
-const CASES: [Case; 6] = [
+static CASES: [Case; 6] = [
     Case(
         "nothing is synced: each prefix",
         &[
@@ -198,6 +198,11 @@ const CASES: [Case; 6] = [
     ),
 ];
 
+// The table is named by a function of its own, since a proof has all of it at each step.
+fn all_cases() -> &'static [Case] {
+    CASES.as_slice()
+}
+
 fn ops_in(alloc: Global, steps: &[Step]) -> Result<Vec<Op>, AllocError> {
     let mut ops = Vec::new(alloc);
     for step in steps {
@@ -312,7 +317,7 @@ fn is_right(alloc: Global, case: &Case) -> Result<bool, Fault> {
 
 /// What may be left of each list.
 pub(crate) fn each_list(alloc: Global, tally: &mut Tally) -> Result<(), Fault> {
-    for case in &CASES {
+    for case in all_cases() {
         if case.2.is_some() {
             tally.add_call();
         }
