@@ -96,6 +96,13 @@ static bool is_lost(const raftlog_lost *lost, int kind, uint64_t first, uint64_t
     return lost->kind == kind && !lost->is_rewrite && lost->first == first && lost->last == last;
 }
 
+/* Whether the folder has a note. */
+static bool is_noted(void) {
+    char name[TEXT_ROOM];
+    snprintf(name, sizeof name, "%s/SPANS", folder);
+    return !access(name, F_OK);
+}
+
 /* One file is taken away: the first, one between, the last, or all. */
 static void lose(void) {
     raftlog_lost lost[ROOM];
@@ -204,6 +211,26 @@ static void is_stale(void) {
     is_remembered();
 }
 
+/* This file call fails while a next file gets a missing one's number, if it comes: the loss is remembered, or no note is. */
+static bool is_lost_at(int call) {
+    raftlog_lost lost[ROOM];
+    uint64_t first, last;
+    int code = 0;
+    empty();
+    work_with(DELETING, FEW);
+    find(&first, &last);
+    take_away(last);
+    raftlog *log = open_with(folder, DELETING);
+    atomic_store(&faults_left, call);
+    for (int i = 0; i < FEW && !code; i++) code = put_key(log, 'k', i);
+    bool is_reached = !atomic_load(&faults_left);
+    atomic_store(&faults_left, 0);
+    raftlog_close(log);
+    if (!is_noted()) return is_reached;
+    CHECK(lost_in(DELETING, lost) && (lost->kind == RAFTLOG_LOST_BEFORE || (code && lost->kind == RAFTLOG_FILE_MISSING)));
+    return is_reached;
+}
+
 static void put_note(const char *bytes, size_t len) {
     char name[TEXT_ROOM];
     snprintf(name, sizeof name, "%s/SPANS", folder);
@@ -248,13 +275,6 @@ static void is_broken(void) {
     CHECK(!mkdir(name, 0777));
     work(DELETING);
     CHECK(!rmdir(name) && lost_in(DELETING, NULL) == 0);
-}
-
-/* Whether the folder has a note. */
-static bool is_noted(void) {
-    char name[TEXT_ROOM];
-    snprintf(name, sizeof name, "%s/SPANS", folder);
-    return !access(name, F_OK);
 }
 
 /* The status of a child that does this. */
@@ -469,6 +489,7 @@ int main(int argc, char **argv) {
     spill();
     delete_last();
     note_fails();
+    for (int call = 1; is_lost_at(call);) call++;
     of_another();
     cancelled();
     settings();

@@ -224,12 +224,13 @@ typedef struct {
 
 /* Returns how many such facts the opening found, and stores the first of them, at most `room`, in `lost`, which may be
  * NULL if `room` is 0. `size` is sizeof(raftlog_lost), as for `raftlog_stats`. After a crash or a kill there are none.
- * Later openings report them too, until the files are put back or the note is gone: accepted, or removed since a
- * new one was refused. Without a note nothing is reported. */
+ * Later openings report them too, until the files are put back, the note is stale, or the note is gone: accepted, or
+ * removed by a write that could make no new one. Without a note nothing is reported, and nothing if the settings have
+ * `spill-dir` in another form than a line `spill-dir = "PATH"`. */
 size_t raftlog_missing(raftlog *log, raftlog_lost *lost, size_t room, size_t size);
 
-/* As `raftlog_open`, but fails as RAFTLOG_LOST if a file is missing or was, or is a stray. It has changed no log file
- * then. */
+/* As `raftlog_open`, but fails as RAFTLOG_LOST if a file is missing or was, or is a stray, as `raftlog_missing` knows
+ * it. It has changed no log file then. */
 int raftlog_open_whole(const char *folder, const char *settings, raftlog **out, char *text, size_t room);
 
 /* Accepts what is missing in a folder that nobody has open: it removes the note. The next opening writes one of the files

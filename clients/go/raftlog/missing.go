@@ -45,8 +45,8 @@ func AcceptMissing(folder string) error {
 }
 
 // Missing returns the log files that the opening found to be missing or strays. After a crash or a kill there are none.
-// Later openings report them too, until the files are put back or the note is gone: AcceptMissing removes it, and so does
-// an opening or a write if a new note is refused.
+// Later openings report them too, until the files are put back, the note is stale, or the note is gone: AcceptMissing
+// removes it, and so does a write that can make no new one.
 func (e *Engine) Missing() ([]Loss, error) {
 	e.mutex.RLock()
 	defer e.mutex.RUnlock()

@@ -298,8 +298,8 @@ class Engine:
         """The log files that the opening found to be missing or strays, by the log's note of their numbers. A Loss has its
         kind (FILE_MISSING, FILE_STRAY, LOST_BEFORE: one was missing at an earlier opening and cannot be put back, or
         NOTE_STALE: not known), the queue, and the least and the greatest number; for the last two kinds these are the
-        note's. After a crash or a kill there are none. Later openings report them too, until the files are put back or the
-        note is gone: `accept_missing` removes it, and so does a write if a new note is refused."""
+        note's. After a crash or a kill there are none. Later openings report them too, until the files are put back, the
+        note is stale, or the note is gone: `accept_missing` removes it, and so does a write that can make no new one."""
         if not self._log:
             raise Error(FAILED, "the log is closed")
         count = _C.raftlog_missing(self._log, None, 0, 0)

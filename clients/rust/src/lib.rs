@@ -558,8 +558,8 @@ impl Engine {
     }
 
     /// The log files that the opening found to be missing or strays. After a crash or a kill there are none. Later openings
-    /// report them too, until the files are put back or the note is gone: `accept_missing` removes it, and so does a write
-    /// if a new note is refused.
+    /// report them too, until the files are put back, the note is stale, or the note is gone: `accept_missing` removes
+    /// it, and so does a write that can make no new one.
     pub fn missing(&self) -> Vec<Loss> {
         let count = unsafe { sys::raftlog_missing(self.log, ptr::null_mut(), 0, 0) };
         let mut found = Vec::with_capacity(count);
