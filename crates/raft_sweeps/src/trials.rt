@@ -249,7 +249,7 @@ static CASES: [Case; 14] = [
     ),
 ];
 
-fn cases() -> &'static [Case] {
+fn all_cases() -> &'static [Case] {
     CASES.as_slice()
 }
 
@@ -347,7 +347,7 @@ fn is_done(alloc: Global, case: &Case) -> bool {
 }
 
 fn wrong_case(alloc: Global) -> Option<usize> {
-    for (place, case) in cases().iter().enumerate() {
+    for (place, case) in all_cases().iter().enumerate() {
         if !is_done(alloc, case) {
             return Some(place);
         }
