@@ -180,7 +180,10 @@ class Losses:
         self.expect("nothing is done", state_of(folder) == before)
         ran = self.run(folder, "put", 1, "a", "b", "--cut")
         self.expect(f"a change that goes on: {ran.stderr}", ran.returncode == 0 and b"queue rewrite" in ran.stderr)
-        self.expect("then it is there", self.run(folder, "check").returncode == 0)
+        ran = self.run(folder, "check")
+        self.expect(f"then it is there, and was missing: {ran.stdout}", ran.returncode == 6 and b"plan missing path rewrite files 0" in ran.stdout)
+        ran = self.run(folder, "repair", "--cut")
+        self.expect(f"the loss is accepted: {ran.stderr}", ran.returncode == 0 and self.run(folder, "check").returncode == 0)
 
     def failed_changes(self):
         """A change that fails before its opening keeps no file of what still stands, and tells what it moved."""
