@@ -201,7 +201,10 @@ fn are_so(counts: &DiskCounts) -> bool {
         counts.recycled_files,
         counts.deleted_files,
     );
-    let timed: u64 = counts.sync_times.iter().sum();
+    let mut timed = 0u64;
+    for syncs in &counts.sync_times {
+        timed = timed.saturating_add(*syncs);
+    }
     calls == (2, 9, 1) && names == (3, 1, 1) && timed == 1
 }
 
