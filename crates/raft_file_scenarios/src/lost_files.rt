@@ -194,6 +194,14 @@ fn calls<F: FileSystem>(files: &mut F) -> bool {
     is_written && files.create(B).is_ok() && files.rename(A, C).is_ok() && files.delete(B).is_ok()
 }
 
+fn sum_of(times: &[u64]) -> u64 {
+    let mut sum: u64 = 0;
+    for count in times {
+        sum = sum.saturating_add(*count);
+    }
+    sum
+}
+
 fn are_so(counts: &DiskCounts) -> bool {
     let calls = (counts.writes, counts.bytes, counts.syncs);
     let names = (
@@ -201,8 +209,7 @@ fn are_so(counts: &DiskCounts) -> bool {
         counts.recycled_files,
         counts.deleted_files,
     );
-    let timed: u64 = counts.sync_times.iter().sum();
-    calls == (2, 9, 1) && names == (3, 1, 1) && timed == 1
+    calls == (2, 9, 1) && names == (3, 1, 1) && sum_of(&counts.sync_times) == 1
 }
 
 /// Whether the calls of a folder are counted.
