@@ -84,13 +84,13 @@ impl Said {
         let bytes = [
             state.a, state.b, state.c, state.d, p, q, r, s, t, u, v, w, other,
         ];
-        let mut front = "";
+        let mut is_first = true;
         for (place, byte) in PLACES.iter().zip(bytes.iter()) {
             if *byte != 0 {
-                self.say(front);
+                self.say(if is_first { "" } else { " " });
                 self.say(place);
                 self.spell("=", &[*byte]);
-                front = " ";
+                is_first = false;
             }
         }
     }
