@@ -74,6 +74,18 @@ fn is_image_allowed<F: FileSystem>(
     }
 }
 
+fn is_held_allowed<F: Faulty>(alloc: Global, held: &mut Held<F>, list: &List, ran: &Ran) -> bool {
+    let came_to = CameTo {
+        is_opened: ran.is_opened,
+        outcomes: &ran.outcomes,
+        failed_at: ran.failed_at,
+    };
+    match held {
+        Held::Engine(engine) => is_image_allowed(alloc, engine, list, came_to),
+        _ => false,
+    }
+}
+
 impl<F: Faulty> Bench<F> {
     fn new(alloc: Global, files: F) -> Bench<F> {
         Bench {
@@ -117,15 +129,7 @@ impl<F: Faulty> Bench<F> {
     fn is_allowed(&mut self, alloc: Global, list: &List, left: &Left) -> bool {
         let is_left = self.left.hold_left(alloc, &mut self.held, left)
             && opens(alloc, &mut self.left, list);
-        let ran = CameTo {
-            is_opened: self.ran.is_opened,
-            outcomes: &self.ran.outcomes,
-            failed_at: self.ran.failed_at,
-        };
-        match &mut self.left {
-            Held::Engine(engine) => is_left && is_image_allowed(alloc, engine, list, ran),
-            _ => false,
-        }
+        is_left && is_held_allowed(alloc, &mut self.left, list, &self.ran)
     }
 
     fn are_allowed(&mut self, alloc: Global, list: &List, tally: &mut Tally) -> bool {
