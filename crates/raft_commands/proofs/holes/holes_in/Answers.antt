@@ -1,6 +1,6 @@
 use denote.Param.Send.{sendable}
 use Rattle.raft_memory.proofs.Sent.{memory_send, memory_sync}
-use Rattle.raft_commands.proofs.holes.print_holes.Goals as goal
+use Rattle.raft_commands.proofs.holes.holes_in.Goals as goal
 
 pub consistency_check_with_file_system-requires-send-F
     : goal.consistency_check_with_file_system-requires-send-F
