@@ -62,8 +62,10 @@ fn look_at(
     import: Import<'_>,
     folder: &str,
 ) -> Result<SourceLog> {
-    let mut options = request.options;
-    options.spill = import.spill;
+    let options = Options {
+        spill: import.spill,
+        ..request.options
+    };
     let mut log = SourceLog::look_at(rt, folder, &options)?;
     log.plan.name_source(rt.alloc())?;
     Ok(log)
