@@ -1,7 +1,7 @@
 use Rattle.std.proofs.Common.{inr}
 use Rattle.std.proofs.lemmas.Result.{err_from_is_err_and}
 use Rattle.raft_builder.proofs.GatherLemmas.{answered_more, answered_refused, gathered_still}
-use Rattle.raft_builder.proofs.gathering.gathered_with.Goals as goal
+use Rattle.raft_builder.proofs.gathering.add_part.Goals as goal
 
 pub returns-in_err-machines : goal.returns-in_err-machines
 returns-in_err-machines g c = λ answers before.

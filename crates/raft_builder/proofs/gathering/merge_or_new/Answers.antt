@@ -3,7 +3,7 @@ use Rattle.std.proofs.lemmas.Bool.{eqb-true}
 use Rattle.std.proofs.lemmas.List.{nil_from_length}
 use Rattle.std.proofs.lemmas.Result.{IfOk-weaker}
 use Rattle.raft_builder.proofs.GatherLemmas.{none_stand}
-use Rattle.raft_builder.proofs.gathering.merged.Goals as goal
+use Rattle.raft_builder.proofs.gathering.merge_or_new.Goals as goal
 
 pub returns-then-is_empty-clause-ok : goal.returns-then-is_empty-clause-ok
 returns-then-is_empty-clause-ok g c =
