@@ -1,4 +1,5 @@
-//! Operations, crashes and answers as rows of tables, and what may be found after them: for the tests alone.
+//! Operations, crashes and results as rows of tables, and the states that may be found after them.
+//! For tests only.
 #![tactic(auto)]
 
 mod held;
