@@ -2,6 +2,7 @@ pub mod PackedPlace
 pub mod EntryTable
 pub mod KeyHash
 pub mod Table
+pub mod Room
 pub mod Known
 pub mod Tables
 pub mod Counters
