@@ -3,9 +3,9 @@
 use crate::plans::{Left, choices_of};
 use crate::states::{MAX_FILES, State, settings_in, state_of};
 use raft_env::{FileSystem, IoKind};
-use raft_log_engine::{Config, Engine, RecoveryMode, Refused};
 use raft_memory::{FsCall, MemoryFileSystem};
 use raft_records::Fault;
+use raft_script::{Config, Engine, RecoveryMode, Refused};
 use std::alloc::Global;
 use std::mem;
 

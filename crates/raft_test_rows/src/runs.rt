@@ -3,10 +3,9 @@
 use crate::held::{Faulty, Held};
 use crate::states::first_refused;
 use raft_env::{FileSystem, IoKind};
-use raft_log_engine::Engine;
 use raft_memory::FsCall;
 use raft_records::Fault;
-use raft_script::{Op, Outcome, run};
+use raft_script::{Engine, Op, Outcome, run};
 use std::alloc::Global;
 
 /// Each sort of calls that may fail.

@@ -2,9 +2,8 @@
 //! only, or read from an image.
 
 use crate::plans::{Change, Plan};
-use raft_log_engine::{Config, Image, RecoveryMode};
 use raft_records::{Fresh, ReadableSize};
-use raft_script::{Act, Op, Outcome};
+use raft_script::{Act, Config, Image, Op, Outcome, RecoveryMode};
 use std::alloc::{AllocError, Global};
 
 /// The first byte of each key's value and of each entry's word, 0 for none. `a` and `b` are keys

@@ -189,7 +189,7 @@ fn report<J: Naming, R: Print>(
     let (durable, finished) = finish(desk, seats, puts)?;
     let Finished { engine, trail } = finished;
     let found = finds_each_read(after_crash(alloc, engine)?, &trail)?;
-    println!(rt; "each put stands before an answered sync: {durable}")?;
+    println!(rt; "each put is before a successful sync: {durable}")?;
     println!(rt; "each value that was read is found after a crash: {found}")?;
     Ok(())
 }
