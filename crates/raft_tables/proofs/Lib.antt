@@ -27,3 +27,4 @@ pub mod WrittenLemmas
 pub mod GroupIdsLemmas
 pub mod AscendingLemmas
 pub mod PairLemmas
+pub mod GroupsFromLemmas

@@ -26,3 +26,4 @@ pub mod Deleting
 pub mod Replayed
 pub mod Pairs
 pub mod FileCounts
+pub mod GroupsFrom
