@@ -57,7 +57,7 @@ impl FirstGroups {
     /// Keeps the first `limit` groups if there are more than twice as many, in any order.
     fn cut(&mut self, limit: usize)
         requires { IsDistinct nat_eq self.old.groups.items }
-        ensures cut { (self.new ≡ self.old) ⊎ ((next : ℕ) × (self.new.next ≡ Some next)
+        ensures full { (self.new ≡ self.old) ⊎ ((next : ℕ) × (self.new.next ≡ Some next)
             × (limit ≤ length self.new.groups.items)
             × IsFront self.old.groups.items self.new.groups.items next) }
     {

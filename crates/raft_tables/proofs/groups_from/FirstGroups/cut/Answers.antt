@@ -15,4 +15,4 @@ returns c =
     let long : length (take limit all) ≡ limit = length-take-le limit all (omega (arith, less)) in
     let taken = c.truncate.ensures.items in
     let split = front_of_sorted found all limit c.sort_unstable.ensures.permutation c.requires c.sort_unstable.ensures.sorted less next c.index.ensures in
-    record { cut = inr (next, refl, omega (arith, long, ap length taken), subst (λ (xs : List ℕ). IsFront found xs next) (sym taken) split) }
+    record { full = inr (next, refl, omega (arith, long, ap length taken), subst (λ (xs : List ℕ). IsFront found xs next) (sym taken) split) }

@@ -48,7 +48,7 @@ loop-group-preserved-then-takes c =
     let was = subst (λ (xs : List ℕ). AreFound from next keys xs rest) (sym c.in_ok-push.ensures.items) (pushed from next keys found g rest on (subst (AreFound from next keys found) steps c.loop-group.invariant.found)) in
     let is_key = λ (k : ℕ). list_any (nat_eq k) keys ≡ true in
     let some = subst (λ (xs : List ℕ). IfSome next (λ k. (limit ≤ length xs) × is_key k)) (sym c.in_ok-push.ensures.items) (longer limit g next is_key found c.loop-group.invariant.next) in
-    let cut : ((left.next ≡ next) × (left.groups.items ≡ more)) ⊎ ((mid : ℕ) × (left.next ≡ Some mid) × (limit ≤ length left.groups.items) × IsFront more left.groups.items mid) = elim c.cut.ensures.cut [
+    let cut : ((left.next ≡ next) × (left.groups.items ≡ more)) ⊎ ((mid : ℕ) × (left.next ≡ Some mid) × (limit ≤ length left.groups.items) × IsFront more left.groups.items mid) = elim c.cut.ensures.full [
       | inl same ↦ inl (ap (λ (f : FirstGroups). f.next) same, ap (λ (f : FirstGroups). f.groups.items) same)
       | inr split ↦ inr split
     ] in
