@@ -121,7 +121,7 @@ enum {
     RAFTLOG_IN_USE = 30,
     /* A log file's name in the folder is that of a link, a device or a file with several names, or LOCK is a device. */
     RAFTLOG_NOT_PLAIN = 31,
-    /* The folder cannot be made, locked or read. */
+    /* The folder, or its note SPANS, cannot be made, locked or read. */
     RAFTLOG_FOLDER = 32,
     /* A log file is missing or was, or does not follow on the others (`raftlog_open_whole`). The text names one that is
      * missing or does not follow. */
