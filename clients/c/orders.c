@@ -29,14 +29,12 @@ enum { JOINED = 1 << 14 };
 void parts_let_file_go(raftlog *log) {
     heap_let_go(&log->behind);
     if (log->file >= 0) close(log->file);
-    free(log->path);
     log->file = -1;
-    log->path = NULL;
+    log->path_len = 0;
 }
 
-/* Opens the file at a path from the folder to be changed, if it isn't the one that is open. */
+/* Opens the file at a path from the folder to be changed. */
 static int open_file(raftlog *log, const char *path) {
-    if (path == log->path) return 0;
     parts_let_file_go(log);
     const char *name;
     int in = parts_folder_of(log, path, &name);
@@ -44,8 +42,7 @@ static int open_file(raftlog *log, const char *path) {
     log->file = TEMP_FAILURE_RETRY(openat(in, name, O_RDWR | O_NOFOLLOW | O_CLOEXEC));
     int error = log->file < 0 ? errno : 0;
     if (!error) heap_take_up(&log->behind, &log->heap, log->file);
-    if (!error && !(log->path = strdup(path))) error = ENOMEM;
-    log->path_len = error ? 0 : strlen(path);
+    if (!error) log->path_len = strlen(strcpy(log->path, path));
     return error;
 }
 
@@ -159,7 +156,7 @@ static const char *text_of(char *room, const uint8_t *bytes, size_t len) {
 
 /* Whether it changes the file that is open, as most orders do. */
 static inline bool is_of_open(const raftlog *log, const struct order *order) {
-    return order->kind >= WRITE && log->path && order->path_len == log->path_len
+    return order->kind >= WRITE && log->path_len && order->path_len == log->path_len
            && !memcmp(order->path, log->path, log->path_len);
 }
 

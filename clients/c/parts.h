@@ -152,8 +152,8 @@ struct raftlog {
     bool lacks_memory; /* for an order: it can't be given, or not be carried out */
     raftlog_cut *cuts; /* that the opening made; their paths are the log's */
     size_t cut_count, cut_room;
-    char *path; /* of the file that is open to be changed, from the folder; NULL: none is */
-    size_t path_len;
+    char path[PARTS_PATH_ROOM]; /* of the file that is open to be changed, from the folder */
+    size_t path_len;            /* 0: none is */
     int file;
     struct heap heap;        /* the blocks that the proved part keeps the files in */
     struct heap_file behind; /* the open file, for its block */

@@ -108,8 +108,9 @@ enum {
     RAFTLOG_NOT_AN_ENTRY = 10,
     /* The log failed before: close it, and open its folder again. */
     RAFTLOG_FAILED = 11,
-    /* No memory. A change may have failed the log: then the next call fails as RAFTLOG_FAILED, and the next opening
-     * finds the change or not, as after RAFTLOG_IO. Otherwise the log is as it was. */
+    /* No memory. Each log keeps 2 MB for a change that has begun. If a change needed more at once, it may have failed
+     * the log: then the next call fails as RAFTLOG_FAILED, and the next opening finds the change or not, as after
+     * RAFTLOG_IO. Otherwise the log is as it was. */
     RAFTLOG_NO_MEMORY = 12,
     /* The log has a compressed record, which cannot be read. */
     RAFTLOG_LZ4 = 13,
@@ -254,10 +255,10 @@ size_t raftlog_message(raftlog *log, char *text, size_t room);
  * under twice the bound before, and the last class those of 4 seconds or more. */
 enum { RAFTLOG_TIMES = 24 };
 
-/* What a log has done since it was opened, in rounds that are over. Calls of the system that failed are not counted. On average changes / rounds changes share a round,
+/* What a log has done since it was opened, in rounds that are over. On average changes / rounds changes share a round,
  * and a sync takes sync_ns / syncs. A purge and a next file have syncs of their own; without these synced_changes /
- * syncs changes share a sync. The files that are kept for reuse are not counted. A later version may add numbers at the
- * end. */
+ * syncs changes share a sync. Calls of the system that failed are not counted, nor are the files that are kept for
+ * reuse. A later version may add numbers at the end. */
 typedef struct {
     uint64_t rounds;
     uint64_t changes;        /* writes, syncs, compactions and purges in these rounds */
@@ -295,8 +296,9 @@ const char *raftlog_code_text(int code);
 /* ---- memory
  *
  * The index is in memory: 40 bytes an entry, and keys with their values. So is what was written since the last sync,
- * and during a purge twice RAFTLOG_PURGE_BYTES, and at most 8 KB for each item of a record. The rest of the log files is
- * mapped: the system takes that memory back when it needs it, and reads it again from the files on demand. */
+ * and during a purge twice RAFTLOG_PURGE_BYTES, and at most 8 KB for each item of a record. 2 MB are kept for a change that
+ * has begun, and not touched before they are needed. The rest of the log files is mapped: the system takes that memory back
+ * when it needs it, and reads it again from the files on demand. */
 
 /* By default the program ends by SIGBUS if a part of a file cannot be read again: the disk fails, or another program
  * cut the file. After this call, once for the process, a read that needs this part fails as RAFTLOG_CORRUPTION, and so

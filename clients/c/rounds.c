@@ -210,11 +210,13 @@ static void hand_over(raftlog *log, struct parts_change *change, bool sync) {
     pthread_mutex_unlock(&log->lock);
 }
 
-/* Makes room for the change's orders and its round's sync before anything is done, or refuses the change. A purge gives its
- * orders in parts, and makes its own room. */
+/* Makes the reserve, and room for the change's orders and its round's sync, before anything is done, or refuses the change. A
+ * purge gives its orders in parts, and makes its own room. */
 static bool has_room_for(raftlog *log, struct parts_change *change) {
-    bool needs_room = log->folder && !parts_is_purge(change) && change->kind != PARTS_CLOSE;
-    bool has_room = !needs_room || parts_make_order_room(log, size_of(change) + ORDERS_BESIDE);
+    if (change->kind == PARTS_CLOSE) return true;
+    bool gives_parts = !log->folder || parts_is_purge(change);
+    bool has_room = heap_make_reserve(&log->heap)
+                    && (gives_parts || parts_make_order_room(log, size_of(change) + ORDERS_BESIDE));
     if (!has_room) change->code = RAFTLOG_NO_MEMORY;
     return has_room;
 }
