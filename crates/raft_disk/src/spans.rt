@@ -85,6 +85,14 @@ impl SpanReports {
         self.append.has_losses() || self.rewrite.has_losses()
     }
 
+    /// A copy of both reports.
+    pub fn copied(&self, alloc: Global) -> Result<SpanReports, AllocError> {
+        Ok(SpanReports {
+            append: self.append.copied(alloc)?,
+            rewrite: self.rewrite.copied(alloc)?,
+        })
+    }
+
     pub(crate) fn of(&self, queue: LogQueue) -> &SpanReport {
         match queue {
             LogQueue::Append => &self.append,
@@ -107,6 +115,18 @@ impl SpanReport {
     /// Whether a file is missing or was, or one does not belong to its queue.
     pub fn has_losses(&self) -> bool {
         self.has_lost || !self.missing.is_empty() || !self.strays.is_empty()
+    }
+
+    fn copied(&self, alloc: Global) -> Result<SpanReport, AllocError> {
+        let mut copy = SpanReport {
+            has_lost: self.has_lost,
+            is_stale: self.is_stale,
+            ..SpanReport::new(alloc)
+        };
+        copy.missing.extend_from_slice(&self.missing)?;
+        copy.strays.extend_from_slice(&self.strays)?;
+        copy.left_over.extend_from_slice(&self.left_over)?;
+        Ok(copy)
     }
 
     // Whether a file that gets this number hides that one is missing.
@@ -207,15 +227,17 @@ impl Span {
 
     /// The span at an opening that found files of these numbers: the note's, if it is true. Without
     /// a note it is that of all files. If one of these is missing then, no span is known: a purge may
-    /// have left the files before it, or someone else may have deleted it.
-    pub(crate) fn at_opening(&self, numbers: &[u64]) -> Option<Span> {
+    /// have left the files before it, or someone else may have deleted it. If a loss is known anyway,
+    /// the span of the files that are read is enough: with it the loss is remembered.
+    pub(crate) fn at_opening(&self, numbers: &[u64], knows_loss: bool) -> Option<Span> {
         let end = self.end(numbers);
         if self.is_stale(numbers, end) {
             let span = Span {
                 has_lost: self.has_lost,
                 ..Span::of(numbers)
             };
-            return (numbers.first() == Some(&span.first)).then_some(span);
+            let has_no_gap = numbers.first() == Some(&span.first);
+            return (knows_loss || has_no_gap).then_some(span);
         }
         Some(Span {
             first: self.front(numbers),
