@@ -1,6 +1,10 @@
 //! Files in a folder of the operating system, for what is written over any files.
 
+use raft_config::Config;
 use raft_disk::{DiskCounts, DiskFileSystem, OpenFault};
+use raft_inspect::FolderLosses;
+use raft_records::{Fault, Fresh};
+use std::alloc::Global;
 
 /// What an opening reads.
 #[derive(Clone, Copy)]
@@ -25,6 +29,9 @@ pub(crate) trait Disk {
     fn delete_unread(&self) -> Result<(), OpenFault>;
 
     fn call_counts(&self) -> DiskCounts;
+
+    /// What an opening loses by the default settings.
+    fn losses(&mut self, alloc: Global) -> Result<FolderLosses, Fault>;
 
     /// What the system said of the last call that it refused.
     fn last_refusal(&self) -> Option<&str>;
@@ -52,6 +59,10 @@ impl Disk for DiskFileSystem {
 
     fn call_counts(&self) -> DiskCounts {
         self.counts()
+    }
+
+    fn losses(&mut self, alloc: Global) -> Result<FolderLosses, Fault> {
+        FolderLosses::find(alloc, &Config::fresh(alloc), self)
     }
 
     fn delete_unread(&self) -> Result<(), OpenFault> {
