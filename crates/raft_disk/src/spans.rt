@@ -57,7 +57,7 @@ pub struct SpanNote {
     pub spans: Spans,
 }
 
-/// What a note tells of a queue's files.
+/// What a note reports of a queue's files.
 #[derive(Drop)]
 pub struct SpanReport {
     /// The numbers of files that are needed and do not exist, as ranges: the least and the greatest.
@@ -72,7 +72,7 @@ pub struct SpanReport {
     pub is_stale: bool,
 }
 
-/// What a note tells of both queues' files.
+/// What a note reports of both queues' files.
 #[derive(Drop)]
 pub struct SpanReports {
     pub append: SpanReport,
