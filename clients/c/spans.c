@@ -189,7 +189,8 @@ static bool are_same(const struct span *one, const struct span *other) {
 /* ---- the file */
 
 static int remove_note(raftlog *log) {
-    if (unlinkat(log->root, SPANS, 0)) return errno == ENOENT ? 0 : errno;
+    /* If there is none, the sync after an earlier removal may have failed. */
+    if (unlinkat(log->root, SPANS, 0) && errno != ENOENT) return errno;
     return TEMP_FAILURE_RETRY(fsync(log->root)) ? errno : 0;
 }
 

@@ -329,9 +329,9 @@ fn may_be_sound(error: &io::Error) -> bool {
 pub(crate) fn remove_note(rt: &HostRuntime, root: &Root) -> io::Result<()> {
     let place = root.place(rt.alloc(), SPANS)?;
     match fs::remove_file(rt, place.as_str()) {
-        Ok(()) => sync_folder(rt, root.at()),
-        Err(e) if e.kind() == ErrorKind::NotFound => Ok(()),
-        Err(e) => Err(e),
+        Err(e) if e.kind() != ErrorKind::NotFound => Err(e),
+        // The sync after an earlier removal may have failed.
+        _ => sync_folder(rt, root.at()),
     }
 }
 
