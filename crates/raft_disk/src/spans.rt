@@ -118,11 +118,9 @@ impl SpanReport {
     }
 
     fn copied(&self, alloc: Global) -> Result<SpanReport, AllocError> {
-        let mut copy = SpanReport {
-            has_lost: self.has_lost,
-            is_stale: self.is_stale,
-            ..SpanReport::new(alloc)
-        };
+        let mut copy = SpanReport::new(alloc);
+        copy.has_lost = self.has_lost;
+        copy.is_stale = self.is_stale;
         copy.missing.extend_from_slice(&self.missing)?;
         copy.strays.extend_from_slice(&self.strays)?;
         copy.left_over.extend_from_slice(&self.left_over)?;
