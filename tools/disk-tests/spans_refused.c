@@ -1,5 +1,6 @@
 // Loaded before the C library: the writes of a log's note SPANS fail, the first $REFUSED of them, as if the disk were full.
-// After each sync of the note its bytes are copied to the file $SYNCED: a crash leaves at least these.
+// After each sync of the note its bytes are copied to the file $SYNCED, which is removed with the note: a crash may leave
+// these bytes.
 #define _GNU_SOURCE
 #include <dlfcn.h>
 #include <errno.h>
@@ -13,13 +14,17 @@ enum { NOTE_ROOM = 2048 };
 
 static int left = -1;
 
+static int ends_as_note(const char *path) {
+    const char *name = strrchr(path, '/');
+    return strcmp(name ? name + 1 : path, "SPANS") == 0;
+}
+
 static int is_note(int fd) {
     char link[40], path[PATH_MAX];
     snprintf(link, sizeof link, "/proc/self/fd/%d", fd);
     ssize_t len = readlink(link, path, sizeof path - 1);
     path[len > 0 ? len : 0] = 0;
-    const char *name = strrchr(path, '/');
-    return name && strcmp(name, "/SPANS") == 0;
+    return ends_as_note(path);
 }
 
 static int refuses(int fd) {
@@ -56,5 +61,12 @@ int fsync(int fd) {
     int (*real)(int) = (int (*)(int))dlsym(RTLD_NEXT, "fsync");
     int status = real(fd);
     if (!status && is_note(fd)) keep(fd);
+    return status;
+}
+
+int unlink(const char *path) {
+    int (*real)(const char *) = (int (*)(const char *))dlsym(RTLD_NEXT, "unlink");
+    int status = real(path);
+    if (!status && ends_as_note(path) && getenv("SYNCED")) real(getenv("SYNCED"));
     return status;
 }

@@ -39,10 +39,12 @@ class Log:
         return sorted(name for name in os.listdir(self.folder) if name.endswith('.raftlog'))
 
     def crash(self):
-        """The note as its last sync left it; none if none was synced."""
+        """The note as its last sync left it; none if none was synced since it was removed."""
         note = os.path.join(self.folder, 'SPANS')
-        if os.path.exists(note) and os.path.exists(self.synced):
+        if os.path.exists(self.synced):
             shutil.copyfile(self.synced, note)
+        elif os.path.exists(note):
+            os.unlink(note)
 
 
 def is_remembered(log, which, words, refused):
