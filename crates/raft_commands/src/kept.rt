@@ -1,6 +1,8 @@
 //! Files beside a log's, which keep what an opening takes out of it. None that stands is written over.
 
 use anyhow::{Result, anyhow};
+use raft_console::check_len;
+use std::fmt::Display;
 use std::fs::{self, File};
 use std::io::{self, ErrorKind, Write};
 
@@ -14,6 +16,9 @@ pub(crate) fn keep(rt: &HostRuntime, folder: &str, name: &str, bytes: &[u8]) -> 
 }
 
 fn keep_at(rt: &HostRuntime, place: &str, bytes: &[u8]) -> Result<()> {
+    if let Err(error) = check_len(rt, bytes.len() as u64) {
+        return Err(unkept(place, &error));
+    }
     let part = format!(in rt.alloc(); "{place}.part")?;
     match fill(rt, part.as_str(), place, bytes) {
         Ok(()) => Ok(()),
@@ -24,7 +29,7 @@ fn keep_at(rt: &HostRuntime, place: &str, bytes: &[u8]) -> Result<()> {
     }
 }
 
-fn unkept(place: &str, error: &io::Error) -> anyhow::Error {
+fn unkept<E: Display>(place: &str, error: &E) -> anyhow::Error {
     anyhow!("{error}; `--no-keep` goes on without").context(anyhow!(
         "what is cut off cannot be kept: {place}"
     ))

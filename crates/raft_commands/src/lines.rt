@@ -1,10 +1,10 @@
 //! Keys and values, or entries, of a file of lines.
 
 use anyhow::{Result, anyhow};
-use raft_command_line::Request;
+use raft_command_line::{Options, Request};
 use raft_console::{
-    GroupValue, LineForm, Pair, Progress, Spelling, file_or_input, or_failure, read_entry_lines,
-    read_lines, read_values,
+    GroupValue, LineForm, Pair, Progress, Spelling, check_batch, file_or_input, or_failure,
+    read_entry_lines, read_lines, read_values,
 };
 use raft_env::FileSystem;
 use raft_log_engine::{Engine, LogBatch};
@@ -41,6 +41,7 @@ pub(crate) fn put_lines<F: FileSystem>(
     request: &Request<'_>,
 ) -> Result<()> {
     let pairs = pairs_in(rt, path, group, request)?;
+    check_pairs(rt, &pairs, &request.options)?;
     let batches = or_failure(batches_of(rt.alloc(), pairs), "the lines cannot be put")?;
     write_all(rt, engine, batches, request)?;
     if request.sync {
@@ -57,6 +58,27 @@ fn pairs_in(
 ) -> Result<Vec<Pair>> {
     let text = file_or_input(rt, path)?;
     read_lines(rt.alloc(), &text, form_of(group, request))
+}
+
+// Fails if a batch of them makes a file too long.
+fn check_pairs(rt: &HostRuntime, pairs: &[Pair], options: &Options<'_>) -> Result<()> {
+    let mut longest = 0;
+    for (_, key, value) in pairs {
+        longest = key.len().saturating_add(value.len()).max(longest);
+    }
+    check_batch(rt, options, pairs.len(), longest)
+}
+
+/// Fails if a batch of the values of runs makes a file too long.
+pub(crate) fn check_runs(rt: &HostRuntime, runs: &[Run], options: &Options<'_>) -> Result<()> {
+    for run in runs {
+        let mut longest = 0;
+        for value in &run.values {
+            longest = value.len().max(longest);
+        }
+        check_batch(rt, options, run.values.len(), longest)?;
+    }
+    Ok(())
 }
 
 fn form_of(group: Option<u64>, request: &Request<'_>) -> LineForm {

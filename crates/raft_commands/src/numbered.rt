@@ -3,7 +3,7 @@
 use crate::changes::{Change, write};
 use anyhow::Result;
 use raft_command_line::{Load, Options};
-use raft_console::{Output, Progress, failure, note, print_bytes};
+use raft_console::{Output, Progress, check_batch, failure, note, print_bytes};
 use raft_env::FileSystem;
 use raft_inspect::Word;
 use raft_log_engine::Engine;
@@ -21,6 +21,7 @@ pub(crate) fn load<F: FileSystem>(
     load: Load,
     options: &Options<'_>,
 ) -> Result<()> {
+    check_batch(rt, options, 1, load.size as usize)?;
     let start = Instant::now(rt)?;
     let mut progress = Progress::of(*rt, options)?;
     for number in 0..load.count {

@@ -5,7 +5,7 @@ use crate::opening::{close, config, open};
 use crate::stored::{Stored, Total};
 use anyhow::Result;
 use raft_command_line::{Options, Purge};
-use raft_console::{Output, Progress, Status, failure, note_made, or_failure};
+use raft_console::{Output, Progress, Status, check_batch, failure, note_made, or_failure};
 use raft_env::FileSystem;
 use raft_inspect::Word;
 use raft_log_engine::Engine;
@@ -24,6 +24,8 @@ pub(crate) fn purge<R: Threads + Sync, F: FileSystem + ChangedFiles + Drop>(
     out: &mut Output,
 ) -> Result<Status> {
     let before = find(rt.alloc(), &mut files, options)?;
+    // A record that is written again is no longer than the file that has it.
+    check_batch(rt, options, 0, before.longest() as usize)?;
     let left = purge_files(rt, threads, files, purge, options, out)?;
     tell_left(rt, left, purge, &before, options, out)
 }

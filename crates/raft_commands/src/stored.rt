@@ -106,6 +106,15 @@ impl Stored {
         (append, rewrite)
     }
 
+    /// The length of the longest log file.
+    pub fn longest(&self) -> u64 {
+        let mut longest = 0;
+        for (_, len) in &self.log {
+            longest = longest.max(*len);
+        }
+        longest
+    }
+
     /// Those of the log files that stand no more.
     pub fn gone<F: FileSystem>(&self, files: &F) -> Total {
         let mut gone = Total::new();

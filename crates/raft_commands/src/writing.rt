@@ -4,7 +4,7 @@ use crate::changed::ChangedFiles;
 use crate::changes::{Change, write};
 use crate::entries::{append, compact, note_emptied};
 use crate::guard::guard;
-use crate::lines::{Run, put_lines, read_entry_file, with_value_file};
+use crate::lines::{Run, check_runs, put_lines, read_entry_file, with_value_file};
 use crate::numbered::load;
 use crate::opening::{close, open};
 use crate::purging::purge;
@@ -14,7 +14,7 @@ use crate::taken::{Taken, give_back, note_taken};
 use crate::waiting::open_folder;
 use anyhow::{Result, anyhow};
 use raft_command_line::{Request, Verb};
-use raft_console::{Output, Progress, Status, bytes_of, or_failure};
+use raft_console::{Output, Progress, Status, bytes_of, check_batch, or_failure};
 use raft_contents::{Material, truncate};
 use raft_disk::DiskFileSystem;
 use raft_env::FileSystem;
@@ -255,6 +255,7 @@ fn append_all<F: FileSystem>(
     out: &mut Output,
 ) -> Result<()> {
     let runs = all_runs(rt, request)?;
+    check_runs(rt, &runs, &request.options)?;
     let tells_group = match &request.verb {
         Verb::EntryLines(group, _) => group.is_none(),
         Verb::Append(group, _, _, _) => group.is_none(),
@@ -286,6 +287,8 @@ fn put<F: FileSystem>(
 ) -> Result<()> {
     let key = bytes_of(rt, pair.0, request.options.hex)?;
     let value = bytes_of(rt, pair.1, request.options.hex)?;
+    let longest = key.len().saturating_add(value.len());
+    check_batch(rt, &request.options, 1, longest)?;
     let change = Change::Put(&key, &value);
     let written = write(rt.alloc(), engine, group, change, request.sync);
     or_failure(written, "the key cannot be put")

@@ -12,7 +12,7 @@ mod telling;
 
 use anyhow::anyhow;
 pub use input::{bytes_of, file_or_input};
-pub use limits::check_file_limit;
+pub use limits::{batch_room, check_batch, check_file_limit, check_len};
 pub use line_input::{
     EntryLine, GroupValue, LineForm, Pair, Spelling, member, read_entry_lines, read_lines,
     read_object, read_values,
@@ -24,7 +24,7 @@ use raft_command_line::Options;
 pub use status::Status;
 use std::alloc::AllocError;
 pub use streams::take_closed_streams;
-pub use telling::tell;
+pub use telling::{print_error, tell};
 
 /// What couldn't be done, why, and what helps. What couldn't be done and why have room for 120 bytes each.
 pub fn failure(what: &str, fault: &Fault) -> anyhow::Error {

@@ -1,5 +1,6 @@
 //! What a command prints.
 
+use crate::limits::{OUTPUT, check_stream};
 use anyhow::{Result, anyhow};
 use raft_command_line::Options;
 use raft_inspect::{Field, Lines, Word};
@@ -73,6 +74,9 @@ impl Output {
 
 /// Prints these bytes.
 pub fn print_bytes(rt: &HostRuntime, bytes: &[u8]) -> Result<()> {
+    if let Err(error) = check_stream(rt, OUTPUT, bytes.len()) {
+        return Err(error.context("standard output"));
+    }
     match io::writer(rt).write_all(bytes) {
         Ok(()) => Ok(()),
         Err(e) => Err(anyhow!("standard output: {e}")),

@@ -27,4 +27,22 @@ impl Status {
             Status::Refused => 7,
         }
     }
+
+    /// The status that counts of two: a failure, else what is passed over, else a cut.
+    pub fn or_worse(self, other: Status) -> Status {
+        if self.rank() < other.rank() {
+            other
+        } else {
+            self
+        }
+    }
+
+    fn rank(self) -> u8 {
+        match self {
+            Status::Done | Status::Absent | Status::Refused => 0,
+            Status::WouldCut => 1,
+            Status::WouldPass => 2,
+            Status::WouldFail => 3,
+        }
+    }
 }

@@ -1,8 +1,8 @@
 //! Items that are written to a log in batches, whatever stands there already.
 
-use anyhow::Result;
-use raft_command_line::{Request, Verb};
-use raft_console::{failure, or_failure, tell};
+use anyhow::{Result, anyhow};
+use raft_command_line::{Options, Request, Verb};
+use raft_console::{batch_room, failure, or_failure, tell};
 use raft_env::FileSystem;
 use raft_log_engine::{Engine, LogBatch};
 use raft_once::{NUMBER_KEY, kept_number};
@@ -18,6 +18,8 @@ const BATCH_BYTES: usize = 1024 * 1024;
 /// they do where an opening reads them.
 pub struct Filling {
     alloc: Global,
+    /// How many bytes a batch may have, if a file may not become too long.
+    room: Option<u64>,
     batch: LogBatch,
     /// How many bytes the batch has, about.
     bytes: usize,
@@ -40,6 +42,7 @@ impl Drop for Filling {
     fn drop(self) {
         let Filling {
             alloc: _,
+            room: _,
             batch: _batch,
             bytes: _,
             spans: _spans,
@@ -54,9 +57,11 @@ impl Drop for Filling {
 }
 
 impl Filling {
-    pub fn new(alloc: Global) -> Filling {
+    pub fn new(rt: &HostRuntime, options: &Options<'_>) -> Filling {
+        let alloc = rt.alloc();
         Filling {
             alloc,
+            room: batch_room(rt, options),
             batch: LogBatch::new(alloc),
             bytes: 0,
             spans: BTreeMap::new(alloc),
@@ -215,6 +220,12 @@ impl Filling {
 
     /// Writes what was added as one batch.
     pub fn write<F: FileSystem>(&mut self, engine: &mut Engine<F>) -> Result<()> {
+        if self.room.is_some_and(|room| room < self.bytes as u64) {
+            return Err(anyhow!("raise `ulimit -f`").context(format_args!(
+                "a batch of {} bytes makes a log file longer than a file may be",
+                self.bytes
+            )));
+        }
         or_failure(self.end_entries(engine), "the batch cannot be built")?;
         if let Err(fault) = engine.write(&mut self.batch, false) {
             return Err(failure("the batch cannot be written", &fault));

@@ -5,7 +5,7 @@ use anyhow::{Result, bail};
 use clap::Error;
 use raft_command_line::{Request, Verb, arrange, completion_script, parse, printable};
 use raft_commands::{change, look};
-use raft_console::{Status, check_file_limit, print_bytes, take_closed_streams, tell};
+use raft_console::{Status, check_file_limit, print_bytes, print_error, take_closed_streams, tell};
 use raft_offline::{fork_folder, print_settings, settings_of};
 use raft_salvage::{import_folder, import_lines, salvage};
 use raft_watch::watch;
@@ -103,7 +103,7 @@ fn print_misuse(rt: &HostRuntime, json: bool, error: &Error) -> Result<()> {
     }
     for line in text.lines() {
         let line = printable(rt.alloc(), line)?;
-        eprintln!(rt; "{line}")?;
+        print_error(rt, format!(in rt.alloc(); "{line}\n")?.as_str())?;
     }
     Ok(())
 }
