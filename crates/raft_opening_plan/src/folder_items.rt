@@ -77,6 +77,19 @@ impl Planner<'_> {
         })
     }
 
+    /// A file in the place of the note of spans in which no note can be read.
+    pub fn unread_note(&self, name: &str, why: &str, mend: String) -> Result<Item, AllocError> {
+        Ok(Item {
+            kind: Kind::Note,
+            path: String::from_str(self.alloc, name)?,
+            files: 1,
+            at: 0,
+            bytes: 0,
+            cause: format!(in self.alloc; "{why}: without a note no missing file is known")?,
+            mend,
+        })
+    }
+
     /// Reserved files, which the opening of a change deletes; `path` is the first one.
     pub fn reserved(&self, path: &str, files: u64, bytes: u64) -> Result<Item, AllocError> {
         let cause = "they hold no record, and the opening of a change deletes them";
