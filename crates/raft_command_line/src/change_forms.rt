@@ -118,7 +118,7 @@ pub(crate) static CHANGE_FORMS: [Form; 12] = [
             Word(
                 "replace",
                 Kind::Flag,
-                "Replaces entries that the log has already; without it an import that would do so writes nothing",
+                "Replaces or removes what the log has; without it an import that would do so writes nothing",
             ),
             NO_SYNC,
             DRY_RUN,

@@ -111,10 +111,10 @@ Statuses:
   4  check, consistency, fork: an opening would cut something off; dump: a file can't be read on;
      import, salvage: not all of the source could be read
   5  check, consistency, fork: an opening would fail
-  6  check, consistency, fork: an opening would pass files over, or leave out those of a folder
+  6  check, consistency, fork, dump: an opening would pass files over, or files are not read
   7  a change was refused, and nothing done: its opening would lose more than an unsynced tail
      explains; look with check, cut and keep with repair, or say --cut. Or an import would
-     replace entries: --replace allows it
+     replace or remove what the log has: --replace allows it
 
 `raftctl help COMMAND` has an example of each command.";
 

@@ -202,7 +202,7 @@ pub(crate) static LOOK_FORMS: [Form; 17] = [
             Word(
                 "TARGET",
                 Kind::Text,
-                "The folder of the new log, which may not exist or is empty",
+                "The folder of the new log, which may not exist or is empty, outside this log's",
             ),
             Word(
                 "FILE",

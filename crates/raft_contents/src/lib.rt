@@ -3,6 +3,8 @@
 #![tactic(auto)]
 
 mod filling;
+mod held;
+mod held_keys;
 mod import;
 mod line_items;
 mod line_source;
