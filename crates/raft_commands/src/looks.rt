@@ -103,8 +103,8 @@ pub(crate) fn note_use(rt: &HostRuntime, folder: &Folder, request: &Request<'_>)
     note_made(rt, &request.options, text)
 }
 
-/// Tells of files that an opening passes over, or whose folder isn't read.
-pub(crate) fn note_unread(
+// Tells of files that an opening passes over, or whose folder isn't read.
+fn note_unread(
     rt: &HostRuntime,
     folder: &Folder,
     request: &Request<'_>,
@@ -113,10 +113,24 @@ pub(crate) fn note_unread(
     if request.options.quiet {
         return Ok(());
     }
-    match folder.unread(&request.options, progress)? {
-        Some(plan) => Ok(plan.tell(rt, &request.options)?),
-        None => Ok(()),
+    tell_unread(rt, folder, request, progress)?;
+    Ok(())
+}
+
+/// The same, and returns what `check` ends with for it; with `--quiet` it prints nothing.
+pub(crate) fn tell_unread(
+    rt: &HostRuntime,
+    folder: &Folder,
+    request: &Request<'_>,
+    progress: &mut Progress,
+) -> Result<Status> {
+    let Some(plan) = folder.unread(&request.options, progress)? else {
+        return Ok(Status::Done);
+    };
+    if !request.options.quiet {
+        plan.tell(rt, &request.options)?;
     }
+    Ok(plan.status())
 }
 
 // All log files in memory; none where one is there no more. A writer is kept out no longer.

@@ -7,6 +7,7 @@ use raft_commands::change_by;
 use raft_console::{Output, Status, tell};
 use raft_contents::{LineImport, Material, TableImport, filter_of};
 use raft_gathering::{Part, Report, Source, gather, sources_of};
+use raft_looks::is_inside;
 use raft_opening_plan::Plan;
 use std::thread::Threads;
 
@@ -33,6 +34,12 @@ pub fn import_folder<R: Threads + Sync>(
     import: Import<'_>,
     folder: &str,
 ) -> Result<Status> {
+    if is_inside(&rt, request.folder, folder)? {
+        bail!(
+            "{}: this log would be in the folder that is read",
+            request.folder
+        );
+    }
     let log = look_at(rt, request, import, folder)?;
     let mut sources = sources_of(&rt, folder, import.spill, false)?;
     sources.retain(|source| source.part == Part::Log);
