@@ -68,7 +68,7 @@ pub(crate) enum GroupLookSort {
     Entries,
 }
 
-/// A word's name, what it is, and what its help says.
+/// A word's name, its kind, and its help text.
 #[derive(Clone, Copy)]
 pub(crate) struct Word(pub &'static str, pub Kind, pub &'static str);
 

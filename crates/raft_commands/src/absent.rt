@@ -1,9 +1,9 @@
-//! What isn't there.
+//! Looks that find nothing.
 
 use raft_command_line::Look;
 use std::alloc::{AllocError, Global};
 
-/// What is told of a look that found nothing.
+/// The text of a look that found nothing.
 pub(crate) fn told_absent(alloc: Global, look: Look<'_>) -> Result<String, AllocError> {
     match look {
         Look::Get(group, key) => format!(in alloc; "group {group} has no key {key}"),

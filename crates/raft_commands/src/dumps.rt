@@ -7,7 +7,7 @@ use raft_console::{Output, Progress, Status};
 use raft_inspect::{Filter, ItemKind};
 use raft_looks::{Folder, dump};
 
-/// Prints a line for each item that is asked for. A file whose name has a `/` is one of the system's.
+/// Prints a line for each requested item. A file whose name has a `/` is one of the system's.
 pub(crate) fn print_items(
     rt: HostRuntime,
     request: &Request<'_>,

@@ -1,4 +1,5 @@
-//! Files beside a log's, which keep what an opening takes out of it. None that stands is written over.
+//! Files beside a log's files, which keep the bytes that an opening takes out. No existing file is
+//! written over.
 
 use anyhow::{Result, anyhow};
 use raft_console::check_len;
@@ -49,7 +50,7 @@ pub(crate) fn free_name(rt: &HostRuntime, folder: &str, name: &str) -> Result<St
     Err(anyhow!("{folder}/{name}: no name is free"))
 }
 
-// The name itself, and then with a number behind it.
+// The name itself, and then with a number after it.
 fn turned(rt: &HostRuntime, name: &str, turn: u64) -> Result<String> {
     if turn == 1 {
         return Ok(String::from_str(rt.alloc(), name)?);

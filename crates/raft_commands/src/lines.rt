@@ -14,7 +14,7 @@ use std::alloc::Global;
 /// A batch takes so many bytes of keys and values, or one pair that has more.
 const BATCH_BYTES: usize = 1024 * 1024;
 
-/// Values of entries of one group that follow one another, from an index on or behind the group's last entry.
+/// Values of consecutive entries of one group, from an index on or after the group's last entry.
 pub(crate) struct Run {
     pub group: u64,
     pub first: Option<u64>,
@@ -88,7 +88,7 @@ fn form_of(group: Option<u64>, request: &Request<'_>) -> LineForm {
     }
 }
 
-/// These runs with the values of a file of lines behind each group's last one.
+/// These runs, with the values of a file of lines after each group's last one.
 pub(crate) fn with_value_file(
     rt: &HostRuntime,
     path: &str,

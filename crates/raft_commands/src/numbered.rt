@@ -83,8 +83,8 @@ fn report(rt: &HostRuntime, start: Instant, load: Load) -> Result<String> {
     )?)
 }
 
-/// Counts the keys that stand from 0 on, and those after the first that is missing or has another
-/// value; whether there are none of these.
+/// Counts the consecutive keys from 0 on, and those after the first that is missing or has another
+/// value. Returns whether there are none of the latter.
 pub(crate) fn verify<F: FileSystem>(
     rt: &HostRuntime,
     engine: &Engine<F>,

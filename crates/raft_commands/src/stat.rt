@@ -1,4 +1,4 @@
-//! What a folder holds, in numbers.
+//! A folder's contents in numbers.
 
 use crate::guard::both_queues;
 use crate::keys::count;
@@ -46,8 +46,8 @@ struct Held {
     span: Option<(u64, u64)>,
 }
 
-/// Prints how much the log holds, what an opening would lose, what is kept to be used again, and a
-/// line for each group and each file; as objects, one of all.
+/// Prints how much the log holds, what an opening would lose, the files kept for reuse, and a line
+/// for each group and each file. As JSON all of it is one object.
 pub(crate) fn stat<R: Threads + Sync, F: FileSystem + Drop>(
     threads: &R,
     alloc: Global,

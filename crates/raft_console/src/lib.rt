@@ -26,12 +26,13 @@ use std::alloc::AllocError;
 pub use streams::take_closed_streams;
 pub use telling::{print_error, tell};
 
-/// What couldn't be done, why, and what helps. What couldn't be done and why have room for 120 bytes each.
+/// An error: the failed action, its cause, and a remedy. The action and the cause have room for
+/// 120 bytes each.
 pub fn failure(what: &str, fault: &Fault) -> anyhow::Error {
     cause_of(fault).context(what)
 }
 
-/// What a call answers, or what couldn't be done by it, why, and what helps.
+/// The call's result, or an error with the failed action, its cause and a remedy.
 pub fn or_failure<T>(called: Result<T, Fault>, what: &str) -> anyhow::Result<T> {
     match called {
         Ok(value) => Ok(value),
@@ -54,7 +55,7 @@ fn cause_of(fault: &Fault) -> anyhow::Error {
     }
 }
 
-/// Tells something on standard error, where not all is quiet.
+/// Prints a note on standard error, unless the options ask for quiet.
 pub fn note(rt: &HostRuntime, options: &Options<'_>, text: &str) -> anyhow::Result<()> {
     if options.quiet {
         return Ok(());
@@ -62,7 +63,7 @@ pub fn note(rt: &HostRuntime, options: &Options<'_>, text: &str) -> anyhow::Resu
     tell(rt, options.json, "note", text)
 }
 
-/// Tells a text that was made for it, as `note`.
+/// Prints a text that was made for this note, as `note` does.
 pub fn note_made(
     rt: &HostRuntime,
     options: &Options<'_>,

@@ -13,7 +13,7 @@ const FULL: usize = 64 * 1024;
 pub struct Output {
     rt: HostRuntime,
     pub lines: Lines,
-    /// A value is printed as its bytes alone.
+    /// A value is printed as its bytes only.
     raw: bool,
 }
 
@@ -43,7 +43,7 @@ impl Output {
         self.print_if_full()
     }
 
-    /// Prints a value: as its bytes alone, where that is asked for, else on a line.
+    /// Prints a value: as its bytes only if requested, otherwise on a line.
     pub fn value(&mut self, value: &[u8]) -> Result<()> {
         if self.raw {
             return print_bytes(&self.rt, value);
@@ -64,7 +64,7 @@ impl Output {
         self.print()
     }
 
-    /// Prints what was added.
+    /// Prints the lines that were added.
     pub fn print(&mut self) -> Result<()> {
         print_bytes(&self.rt, self.lines.as_bytes())?;
         self.lines.clear();

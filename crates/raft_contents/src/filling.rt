@@ -1,4 +1,4 @@
-//! Items that are written to a log in batches, whatever stands there already.
+//! Items that are written to a log in batches, whatever the log already holds.
 
 use anyhow::{Result, anyhow};
 use raft_command_line::{Options, Request, Verb};
@@ -15,7 +15,7 @@ use std::mem;
 const BATCH_BYTES: usize = 1024 * 1024;
 
 /// Items that are to be written. Entries that don't touch those of their group replace them, as
-/// they do where an opening reads them.
+/// they do when an opening reads them.
 pub struct Filling {
     alloc: Global,
     /// How many bytes a batch may have, if a file may not become too long.
@@ -23,8 +23,8 @@ pub struct Filling {
     batch: LogBatch,
     /// How many bytes the batch has, about.
     bytes: usize,
-    /// The first and the last index of groups, where the batch has changed them; nothing for a
-    /// group without entries.
+    /// The first and the last index of groups that the batch has changed; `None` for a group
+    /// without entries.
     spans: BTreeMap<u64, Option<(u64, u64)>>,
     /// Entries of one group that follow one another.
     group: u64,
@@ -210,7 +210,7 @@ impl Filling {
         self.batch.add_raw_entries(group, indexes, values)
     }
 
-    /// Writes what was added, where that is much.
+    /// Writes the added items if they are many.
     pub fn write_if_full<F: FileSystem>(&mut self, engine: &mut Engine<F>) -> Result<()> {
         if self.bytes < BATCH_BYTES {
             return Ok(());
@@ -218,7 +218,7 @@ impl Filling {
         self.write(engine)
     }
 
-    /// Writes what was added as one batch.
+    /// Writes the added items as one batch.
     pub fn write<F: FileSystem>(&mut self, engine: &mut Engine<F>) -> Result<()> {
         if self.room.is_some_and(|room| room < self.bytes as u64) {
             return Err(anyhow!("raise `ulimit -f`").context(format_args!(
@@ -236,8 +236,7 @@ impl Filling {
         Ok(())
     }
 
-    /// Writes all that is left, and then the groups' numbers where they are greater than those that
-    /// stand.
+    /// Writes all remaining items, and then the groups' numbers that are greater than the log's.
     pub fn finish<F: FileSystem>(&mut self, engine: &mut Engine<F>, sync: bool) -> Result<()> {
         self.write(engine)?;
         for _ in 0..self.numbers.len() {

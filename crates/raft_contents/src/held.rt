@@ -109,8 +109,7 @@ impl Held {
         self.own = without_below(self.own, index);
     }
 
-    /// Prints what is replaced and what is removed of the group, and returns whether that is
-    /// anything.
+    /// Prints the replaced and the removed parts of the group. Returns whether there are any.
     pub fn print(&self, group: u64, out: &mut Output) -> Result<bool> {
         let replaced = print_span("replaced", group, self.replaced, out)?;
         let removed = print_span("removed", group, self.removed, out)?;

@@ -13,7 +13,7 @@ use raft_log_engine::Engine;
 use raft_records::Fault;
 use raft_whole_records::Marks;
 
-/// After how many lines it is told how many were checked, if a second went by.
+/// The number of lines after which progress is printed, if a second has passed.
 const COUNTED: u64 = 1024;
 
 /// Lines whose items are written, and which of them.
@@ -38,9 +38,9 @@ impl Drop for LineImport {
 }
 
 impl LineImport {
-    /// Checks the lines of a file that `dump --json` printed, or of standard input. It fails at the
-    /// first line that cannot be read, and names it. Of a file one line is in memory at a time, of
-    /// standard input all bytes.
+    /// Checks the lines of a file that `dump --json` printed, or of standard input. It fails at
+    /// the first line that cannot be read, and names it. One line of a file is in memory at a
+    /// time; of standard input all bytes are.
     pub fn read(rt: &HostRuntime, import: Import<'_>, options: &Options<'_>) -> Result<LineImport> {
         let path = import.file.unwrap_or("-");
         let mut read = LineImport {
@@ -74,8 +74,9 @@ impl LineImport {
     }
 
     /// Writes the batches of the lines, one for each record, in their order, and prints how many
-    /// items they have. If a line says that a file could not be read further, that is told, and the
-    /// status is 4. If anything would be replaced or removed that may not be, nothing is written.
+    /// items they have. If a line says that a file could not be read further, that is printed, and
+    /// the status is 4. If anything would be replaced or removed that may not be, nothing is
+    /// written.
     pub fn write<F: FileSystem>(
         &mut self,
         rt: &HostRuntime,
@@ -190,7 +191,7 @@ pub fn filter_of(import: Import<'_>) -> Filter {
     }
 }
 
-/// Where the lines are read.
+/// The source of the lines.
 #[derive(Clone, Copy)]
 struct Reading {
     /// The record of the last line.

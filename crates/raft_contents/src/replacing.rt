@@ -110,8 +110,8 @@ impl Replacing {
         self.held(engine, group)?.keys.delete(alloc, key)
     }
 
-    /// Prints what is replaced and what is removed of each group, and returns whether the import may
-    /// do so.
+    /// Prints the replaced and the removed parts of each group. Returns whether the import may
+    /// continue.
     pub fn judge(&self, rt: &HostRuntime, request: &Request<'_>, out: &mut Output) -> Result<bool> {
         if !self.print(out)? || may_replace(request) {
             return Ok(true);

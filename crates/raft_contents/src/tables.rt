@@ -20,7 +20,7 @@ pub struct TableImport<'a> {
 }
 
 impl TableImport<'_> {
-    /// Writes of each group the entries behind its last gap, and its keys. If anything would be
+    /// Writes for each group the entries after its last gap, and its keys. If anything would be
     /// replaced that may not be, nothing is written.
     pub fn write<F: FileSystem>(
         &self,

@@ -202,8 +202,8 @@ impl Places<'_> {
         })
     }
 
-    /// A copy is put in the place of a file. A program that has the log open would go on with the
-    /// file itself.
+    /// A copy is put in the place of a file. A program that has the log open would continue with
+    /// the file itself.
     pub fn by_copy(&self, place: &str, text: String) -> Result<Cause, AllocError> {
         let alloc = self.rt.alloc();
         if self.is_in_use {

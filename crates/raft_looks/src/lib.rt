@@ -1,5 +1,5 @@
 //! Looks at a folder's log files, which are read and never changed: how much of each can be read,
-//! what it holds, and all of them in memory.
+//! its items, and all files in memory.
 #![tactic(auto)]
 
 mod checking;

@@ -98,8 +98,8 @@ impl Folder {
         Ok(Some(plan))
     }
 
-    /// The same without what the system refuses and what is deleted: what is lost of files that
-    /// were read.
+    /// The same without items of refusals by the system and of deletions: only losses of files
+    /// that were read.
     pub fn plan_of(
         &self,
         queues: &BothQueues,

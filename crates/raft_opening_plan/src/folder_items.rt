@@ -1,4 +1,4 @@
-//! Items of what is not read, of what the system refuses, and of what is deleted.
+//! Items for files that are not read, that the system refuses, and that are deleted.
 
 use crate::item::Item;
 use crate::kind::Kind;

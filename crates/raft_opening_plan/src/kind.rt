@@ -36,7 +36,7 @@ pub enum Kind {
 /// What a command does that changes the log.
 #[derive(Clone, Copy, Debug, PartialEq, Eq)]
 pub enum Change {
-    /// It reports the item and goes on.
+    /// It reports the item and continues.
     GoesOn,
     /// It is refused before the opening, if no `--cut` is given.
     Refused,

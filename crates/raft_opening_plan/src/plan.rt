@@ -10,7 +10,8 @@ use raft_inspect::Lines;
 use std::alloc::{AllocError, Global};
 use std::str;
 
-/// What an opening cuts, passes over, leaves out and deletes, and where it fails.
+/// The bytes that an opening cuts, the files that it passes over, leaves out and deletes, and the
+/// places at which it fails.
 pub struct Plan {
     pub items: Vec<Item>,
 }
@@ -40,7 +41,8 @@ impl Plan {
         false
     }
 
-    /// The status of `check`: a failure, else what is passed over or left out, else a cut.
+    /// The status of `check`: for a failure, otherwise for files that are passed over or left out,
+    /// otherwise for a cut.
     pub fn status(&self) -> Status {
         let mut status = Status::Done;
         for item in &self.items {
@@ -70,7 +72,7 @@ impl Plan {
         None
     }
 
-    /// Leaves out what is known of the bytes of files at which the opening is refused before.
+    /// Leaves out the findings on files' bytes if the opening is refused before it reads them.
     pub fn drop_unreached(&mut self, alloc: Global) -> Result<(), AllocError> {
         let mut places = Vec::new(alloc);
         for item in &self.items {

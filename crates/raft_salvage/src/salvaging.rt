@@ -13,11 +13,12 @@ use std::fs::{self, File};
 use std::io::{self, ErrorKind};
 use std::thread::Threads;
 
-/// Reads every whole record of the request's folder, or of the files that are named, and writes
-/// what they stand for into a new folder. It prints how many records each file has, what could not
-/// be read and why, and of each group what came back. Standard error has the plan of an opening of
-/// the folder; if that has losses, the status is 4. Nothing is changed in the request's folder. The
-/// new log is made under the name `TARGET.part`, and gets its own name once it is whole and synced.
+/// Reads every whole record of the request's folder, or of the named files, and writes their
+/// contents into a new folder. It prints how many records each file has, what could not be read
+/// and why, and of each group what came back. Standard error has the plan of an opening of the
+/// folder; if that has losses, the status is 4. Nothing is changed in the request's folder. The
+/// new log is made under the name `TARGET.part`, and gets its own name once it is whole and
+/// synced.
 pub fn salvage<R: Threads + Sync>(
     rt: HostRuntime,
     threads: &R,

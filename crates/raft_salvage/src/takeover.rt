@@ -23,10 +23,10 @@ pub fn import_lines<R: Threads + Sync>(
     change_by(rt, threads, request, &mut material)
 }
 
-/// Writes what another folder's log files stand for, whose entries may be compressed by LZ4. Where
-/// more of that log is lost than the end of a queue, nothing is done without `--cut`, and the status
-/// is 7. Where the end of a queue can't be read it is left out and told. Then, and with `--cut`, the
-/// status is 4.
+/// Writes the contents of another folder's log files, whose entries may be compressed with LZ4.
+/// Where more of that log is lost than the end of a queue, nothing is done without `--cut`, and
+/// the status is 7. If the end of a queue can't be read, it is left out, and that is printed.
+/// Then, and with `--cut`, the status is 4.
 pub fn import_folder<R: Threads + Sync>(
     rt: HostRuntime,
     threads: &R,
