@@ -1,4 +1,4 @@
-//! Puts a key with a sync into a log in a folder, and finds it after the next opening.
+//! Puts a key into a log in a folder with a sync, opens the log again, and finds the key.
 #![tactic(auto)]
 
 use raft_disk::DiskFileSystem;

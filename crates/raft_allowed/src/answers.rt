@@ -1,4 +1,4 @@
-//! Which batches were accepted, and which operations cover them.
+//! Which batches were accepted, and which operations make all earlier ones durable.
 ghost use Rattle.std.specs.Prelude.{◌≡◌, ◌&&◌, nat_eq};
 ghost use Rattle.std.specs.List.{list_any};
 ghost use Rattle.raft_script.specs.Batches.{answers_in, is_covering};
@@ -12,7 +12,7 @@ pub(crate) fn is_accepted(outcome: &Outcome, place: usize) -> bool
     ensures { result ≡ is_ok_at place (answers_in outcome.now) }
 {
     match outcome {
-        // A write with numbers that had acted returns the same, and has no batch.
+        // A `write_once` whose numbers had acted returns `Ok` too, and has no batch.
         Outcome::Size(answer) => is_first(place, answer.is_ok()),
         Outcome::Count(answer) => is_first(place, answer.is_ok()),
         Outcome::Sizes(Ok(answers)) => is_one_of(answers, place),
@@ -35,7 +35,7 @@ fn is_one_of(answers: &[Result<usize, Fault>], place: usize) -> bool
     }
 }
 
-/// Whether an operation made sure of all that was accepted up to it.
+/// Whether an operation makes durable all that was accepted up to it.
 pub(crate) fn is_covering(op: &Op, outcome: &Outcome) -> bool
     ensures { result ≡ is_covering op.now outcome.now }
 {

@@ -20,7 +20,7 @@ use raft_once::are_unfit;
 use raft_script::{Act, Op};
 use std::alloc::{AllocError, Global};
 
-/// The batches that an operation is to write, if these groups exist before it.
+/// The batches that an operation would write if these groups exist before it.
 pub(crate) fn batches_of<'a>(
     alloc: Global,
     groups: &[GroupImage],
@@ -87,7 +87,7 @@ fn batch_alone<'a>(
     Ok(batches)
 }
 
-// A batch of each part, or no batches if one of them has none.
+// A batch for each part; none at all if one part can't be built.
 fn batches_of_parts<'a>(
     alloc: Global,
     parts: &'a [(Vec<Act>, bool)],
@@ -107,7 +107,7 @@ fn batches_of_parts<'a>(
     Ok(batches)
 }
 
-// The changes of a write with numbers, if it acts.
+// The changes of a `write_once`, if it acts.
 fn acting_changes<'a>(
     alloc: Global,
     groups: &[GroupImage],
@@ -145,7 +145,7 @@ fn may_act(groups: &[GroupImage], changes: &[Change<'_>], pairs: &[(u64, u64)]) 
     are_new(groups, pairs)
 }
 
-// Each number has eight bytes, as its type says: they are read for that alone.
+// Each number has eight bytes, by its type. The loop reads them only to show that.
 fn numbers_fit(pairs: &[(u64, u64)])
     ensures { are_numbers pairs.now ≡ true }
 {
@@ -188,7 +188,7 @@ fn kept_at(groups: &[GroupImage], group: u64) -> u64
     0
 }
 
-// The command that drops entries of a group, if it has some.
+// The command that removes entries of a group, if it has such entries.
 fn compaction<'a>(
     alloc: Global,
     groups: &[GroupImage],

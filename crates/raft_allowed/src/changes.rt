@@ -1,4 +1,4 @@
-//! Acts as the changes that they make.
+//! The changes that acts make.
 ghost use Rattle.std.specs.Prelude.{◌≡◌, ◌∷◌, ◌++◌, [], IfOk, MatchBool, None, OnOk, Some, option_map, true};
 ghost use Rattle.raft_records.specs.Batch.{is_internal_key};
 ghost use Rattle.raft_records.specs.Item.{Batch};
@@ -20,11 +20,11 @@ pub(crate) struct Change<'a> {
 
 #[derive(Clone, Copy)]
 pub(crate) enum What<'a> {
-    /// Entries with their indexes and bytes; there are some.
+    /// Entries with their indexes and bytes; at least one.
     Entries(&'a [(u64, Vec<u8>)]),
-    /// The group goes, with its entries and keys.
+    /// Removes the group with its entries and keys.
     Clean,
-    /// The entries below an index go.
+    /// Removes the entries below an index.
     Compact(u64),
     Put(&'a [u8], &'a [u8]),
     Delete(&'a [u8]),
@@ -32,7 +32,7 @@ pub(crate) enum What<'a> {
     Number(u64),
 }
 
-/// The changes of acts; none if one of them cannot be done.
+/// The changes of acts; none at all if one of them can't be done.
 pub(crate) fn changes_of_all<'a>(
     alloc: Global,
     acts: &'a [Act],
@@ -45,7 +45,7 @@ pub(crate) fn changes_of_all<'a>(
     }
 }
 
-/// The changes of acts, if each of them can be done.
+/// The changes of acts; `None` if one of them can't be done.
 pub(crate) fn changes_of<'a>(
     alloc: Global,
     acts: &'a [Act],
@@ -104,7 +104,7 @@ fn push_change<'a>(changes: &mut Vec<Change<'a>>, act: &'a Act) -> Result<bool, 
     }
 }
 
-/// The numbers of pairs follow the other changes.
+/// Adds the numbers of pairs after the other changes.
 pub(crate) fn push_numbers<'a>(
     changes: &mut Vec<Change<'a>>,
     pairs: &[(u64, u64)],
@@ -118,7 +118,7 @@ pub(crate) fn push_numbers<'a>(
     Ok(())
 }
 
-/// The changes; none if one of them is of a group's number, which no caller may change.
+/// The changes; none at all if one of them is of a group's number, which no caller may change.
 pub(crate) fn plain_part<'a>(changes: Vec<Change<'a>>) -> Vec<Change<'a>>
     ensures { batch_in result.items ≡ plain_part (batch_in changes.entry.items) }
 {

@@ -1,4 +1,4 @@
-//! Images of groups, and what changes make of one.
+//! Images of groups, and the image after a change.
 ghost use Rattle.std.specs.Prelude.{◌≡◌, ◌∷◌, ◌++◌, [], is_none, nat_eq, IfOk, OnOk, None, Some};
 ghost use Rattle.std.specs.Ordering.{nat_cmp};
 ghost use Rattle.raft_codec.specs.Number.{u64_bytes};
@@ -29,7 +29,7 @@ pub(crate) fn copy_of(alloc: Global, image: &GroupImage) -> Result<GroupImage, A
     })
 }
 
-/// Copies of the groups after one and before the other; none is no bound.
+/// Adds copies of the groups after one and before the other; `None` means no bound.
 pub(crate) fn push_groups(
     alloc: Global,
     into: &mut Vec<GroupImage>,
@@ -64,14 +64,14 @@ fn push_group(
     Ok(())
 }
 
-/// Whether it is the image of the group.
+/// Whether the image is this group's.
 pub(crate) fn is_of(image: &GroupImage, group: u64) -> bool
     ensures { result ≡ nat_eq group image.now.group }
 {
     group == image.group
 }
 
-/// A copy of one of the groups; a missing group has nothing.
+/// A copy of the group's image, which is empty if there is none.
 pub(crate) fn group_at(
     alloc: Global,
     groups: &[GroupImage],
@@ -208,7 +208,7 @@ fn with_pairs(
     })
 }
 
-/// Whether the group takes a change.
+/// Whether the group accepts a change.
 pub(crate) fn takes(old: &GroupImage, what: &What<'_>) -> bool
     ensures { result ≡ is_none (refusal_of (held_in old.now) (content_of what.now)) }
 {
@@ -222,7 +222,7 @@ pub(crate) fn takes(old: &GroupImage, what: &What<'_>) -> bool
     }
 }
 
-/// Whether the group has entries or keys.
+/// Whether the group has neither entries nor keys.
 pub(crate) fn has_nothing(image: &GroupImage) -> bool
     ensures { result ≡ is_nothing (held_in image.now) }
 {

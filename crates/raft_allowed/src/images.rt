@@ -1,4 +1,4 @@
-//! Images, and what batches make of them.
+//! Images, and the image after a batch.
 ghost use Rattle.std.specs.Prelude.{◌≡◌, ◌&&◌, ◌++◌, is_none, IfOk, OnOk};
 ghost use Rattle.std.specs.Ordering.{nat_cmp};
 ghost use Rattle.raft_once.specs.Numbers.{shown};
@@ -67,7 +67,7 @@ fn after_change(alloc: Global, image: &Image, change: &Change<'_>) -> Result<App
     Ok(Applied { image, fits })
 }
 
-// The groups with this one in place of what they have under its number.
+// The groups with this image in place of its group's old one.
 fn with_group(alloc: Global, groups: &[GroupImage], image: GroupImage) -> Result<Image, AllocError>
     ensures { IfOk result (λ new. held_of new.groups.items
         ≡ with_held image.group (held_in image) (held_of groups.now)) }
@@ -80,7 +80,7 @@ fn with_group(alloc: Global, groups: &[GroupImage], image: GroupImage) -> Result
     Ok(Image { groups: new })
 }
 
-// Adds the group after the others, if it has something.
+// Adds the group's image if it isn't empty.
 fn push_any(groups: &mut Vec<GroupImage>, image: GroupImage) -> Result<(), AllocError>
     ensures { OnOk result (held_of groups.new.items ≡ held_of groups.old.items
         ++ with_one image.group (if_any (held_in image))) }

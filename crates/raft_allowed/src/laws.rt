@@ -1,4 +1,4 @@
-//! What holds of trials and of what may be left.
+//! Laws that join trials and the images that may be left.
 ghost use Rattle.std.specs.Prelude.{◌≡◌, ℕ, IfOk, IsSomeAnd, List, None, Option};
 ghost use Rattle.raft_config.specs.Folders.{folders_in};
 ghost use Rattle.raft_config.specs.declared.config.Config.{Config};
@@ -12,9 +12,9 @@ use raft_env::FileSystem;
 use raft_log_engine::laws::crash_leaves_contents;
 use raft_memory::MemoryFileSystem;
 
-/// A trial finds something that may be left after its operations and their outcomes, so `allowed`
-/// returns an image of the same contents. That holds for a trial whose first opening succeeded,
-/// with a crash whose damage is detectable.
+/// A trial finds contents that may be left after its operations with their outcomes, so `allowed`
+/// returns an image of them. The trial's first opening succeeded, and the damage of its crash is
+/// detectable.
 pub fn a_trial_finds_what_may_be_left()
     ensures found { (config : Config) (ops : List Op) (stop : Option ℕ) (choices : List Choice)
         (t : Trial) (is : IsTrialOf ⟦<MemoryFileSystem as FileSystem>⟧ config ops stop choices t)
@@ -24,8 +24,9 @@ pub fn a_trial_finds_what_may_be_left()
     crash_leaves_contents();
 }
 
-/// The same holds for the opening of `trial_twice` in which the second crash came (`second`), and,
-/// if the damage of that crash is detectable too, for the opening after it (`found`).
+/// The same holds for the opening of `trial_twice` in which the second crash came (`second`). It
+/// holds for the opening after that crash (`found`) if the damage of the second crash is
+/// detectable too.
 pub fn a_second_crash_leaves_no_more()
     ensures second { (config : Config) (ops : List Op) (stop : Option ℕ) (choices : List Choice)
         (again : Option ℕ) (more : List Choice) (t : Trial) (is : IsTrialTwiceOf

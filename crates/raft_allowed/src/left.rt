@@ -1,4 +1,4 @@
-//! What a crash may leave.
+//! The images that a crash may leave.
 ghost use Rattle.std.specs.Prelude.{◌≡◌, ◌⊎◌, Any, IfErr, IfOk, IsErrAnd, List, OnOk, map};
 ghost use Rattle.std.specs.List.{AllByRecursion};
 ghost use Rattle.raft_base.specs.Fault.{fault_code};
@@ -19,16 +19,19 @@ use raft_records::Fault;
 use raft_script::{Op, Outcome};
 use std::alloc::{AllocError, Global};
 
-/// The images of everything that a crash may leave of a log that was empty before these operations:
-/// of each prefix of the batches that their outcomes accept, with every batch that a successful
-/// sync covers, and of all of them followed by what may be in flight. That is what the operation at
-/// `failed_at`, counted from 0, may have written when the engine failed in it: any choice of its
-/// batches, in order, except those that the contents before them refuse; nothing if it is None. No
-/// image shows the numbers that groups keep for writes that act once. For a group of n batches
-/// there are up to 2^n choices, and as many images are made: keep such a group small.
+/// The images that a crash may leave of a log that was empty before these operations.
+///
+/// Each is the image of a prefix of the batches that the outcomes accept. The prefix has every
+/// batch that a successful sync covers. After all accepted batches some in flight may follow.
+/// These are of the operation at `failed_at`, counted from 0, in which the engine failed: any
+/// choice of its batches, in order, except those that the contents before them refuse. With `None`
+/// nothing is in flight. No image shows the numbers that groups keep for writes that act once.
+///
+/// A write group of n batches in flight has up to 2^n choices, and as many images are made: keep
+/// such a group small.
 ///
 /// It fails with `InvalidArgument` if there are not as many outcomes as operations, or if
-/// `failed_at` is the place of none of them; otherwise only for lack of memory.
+/// `failed_at` is no operation's place, and otherwise only with `Memory`.
 pub fn allowed(
     alloc: Global,
     ops: &[Op],
@@ -87,7 +90,7 @@ fn images_of(
     Ok(shown)
 }
 
-// The images without the numbers that groups keep.
+// The images as reads show them, without the numbers that groups keep.
 fn all_shown(alloc: Global, images: &[Image]) -> Result<Vec<Image>, AllocError>
     ensures { IfOk result (λ new. (ms : List Contents) → AreHeldBy images.now ms
         → AreHeldBy new.items (map shown ms)) }

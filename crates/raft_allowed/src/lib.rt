@@ -1,5 +1,5 @@
-//! What a crash may leave of a log after operations on it, derived only from the operations and
-//! their outcomes.
+//! The images that a crash may leave of a log, derived only from the operations on it and their
+//! outcomes.
 #![tactic(auto)]
 
 mod answers;

@@ -1,4 +1,4 @@
-//! Copies of the part between bounds.
+//! Copies of the elements between two bounds.
 ghost use Rattle.std.specs.Prelude.{◌≡◌, ◌∷◌, ◌++◌, [], filter, OnOk, None, Some};
 ghost use Rattle.std.specs.Cmp.Lexicographic.{slice_cmp};
 ghost use Rattle.std.specs.Option.{option_copied};
@@ -9,7 +9,7 @@ ghost use Rattle.raft_allowed.specs.Held.{between, is_between, is_past, is_short
 
 use std::alloc::{AllocError, Global};
 
-/// Copies of the entries with an index from `from` on and below `to`; none is no bound.
+/// Adds copies of the entries with indexes from `from` on and below `to`; `None` means no bound.
 pub(crate) fn push_entries(
     alloc: Global,
     into: &mut Vec<(u64, Vec<u8>)>,
@@ -53,7 +53,7 @@ fn is_within(from: u64, to: Option<u64>, index: u64) -> bool
     }
 }
 
-/// Copies of the pairs with a key after one and before the other; none is no bound.
+/// Adds copies of the pairs with keys after one and before the other; `None` means no bound.
 pub(crate) fn push_pairs(
     alloc: Global,
     into: &mut Vec<(Vec<u8>, Vec<u8>)>,

@@ -1,4 +1,4 @@
-//! What a group has after a change, as lists.
+//! A group's lists after a change.
 ghost use Rattle.std.specs.Prelude.{◌≡◌, ◌++◌, ◌+◌, ◌-◌, ◌^◌, ◌==◌, ◌&&◌, ◌||◌, filter, is_none, nat_le, not, IfOk, OnOk, None, Some, if◌then◌else◌};
 ghost use Rattle.std.specs.Map.{lookup};
 ghost use Rattle.std.specs.Option.{option_copied};
@@ -18,7 +18,7 @@ use raft_codec::number::push_u64;
 use raft_once::{NUMBER_KEY, is_number_key, kept_number};
 use std::alloc::{AllocError, Global};
 
-/// The pairs with this value at the key, or with none.
+/// The pairs with this value at the key, or without the key.
 pub(crate) fn with_pair(
     alloc: Global,
     pairs: &[(Vec<u8>, Vec<u8>)],
@@ -83,15 +83,15 @@ pub(crate) fn kept_in(pairs: &[(Vec<u8>, Vec<u8>)]) -> u64
     0
 }
 
-/// Whether it is the key of the mark of an atomic group, which is no key of a group.
+/// Whether it is the key of an atomic group's mark, which no group has as its own key.
 pub(crate) fn is_mark(key: &[u8]) -> bool
     ensures { result ≡ bytes_eq key.now group_mark_key }
 {
     matches!(key, [b'_', b'_', 1])
 }
 
-/// The entries with new ones, which follow those below the first of them; if they do not touch the
-/// list they replace it.
+/// The entries after new ones are added. New entries replace all from their first index on. If
+/// they aren't consecutive to the list, they replace all of it.
 pub(crate) fn with_entries(
     alloc: Global,
     old: &[(u64, Vec<u8>)],
@@ -106,7 +106,7 @@ pub(crate) fn with_entries(
     Ok(entries)
 }
 
-// Below which index old entries stay; none is no bound.
+// The index below which old entries are kept; `None` means no bound.
 fn end_of_kept(old: &[(u64, Vec<u8>)], new: &[(u64, Vec<u8>)]) -> Option<u64>
     ensures { with_entries (entries_of old.now) (entries_of new.now)
         ≡ filter (λ e. is_within 0 result e.0) (entries_of old.now) ++ entries_of new.now }
@@ -123,7 +123,7 @@ fn end_at(next: bool, start: u64) -> Option<u64>
     if next { Some(start) } else { Some(0) }
 }
 
-/// Entries may start inside the list or right after it.
+/// Whether entries that begin at `start` begin inside the list or right after it.
 fn is_next_to(old: &[(u64, Vec<u8>)], start: u64) -> bool
     ensures { result ≡ is_next_to (entries_of old.now) start }
 {
@@ -139,7 +139,7 @@ fn is_in_span(first: u64, len: u64, start: u64) -> bool
     first <= start && start - first <= len
 }
 
-/// Whether a list takes the entries.
+/// Whether the list accepts the entries.
 pub(crate) fn fits(old: &[(u64, Vec<u8>)], new: &[(u64, Vec<u8>)]) -> bool
     ensures { result ≡ is_none (entries_refusal (entries_of old.now) (entries_of new.now)) }
 {
@@ -161,7 +161,7 @@ pub(crate) fn are_no_entries(entries: &[(u64, Vec<u8>)]) -> bool
     entries.is_empty()
 }
 
-// Each index is the one above that before it, from this one on, and none is the greatest number.
+// Whether the indexes are consecutive from `start` on, and none is the greatest number.
 fn are_counted(entries: &[(u64, Vec<u8>)], start: u64) -> bool
     ensures { result ≡ are_counted_from start (entries_of entries.now) }
 {

@@ -1,4 +1,4 @@
-//! What operations lead to, one after the other.
+//! The images that a sequence of operations leads to.
 ghost use Rattle.std.specs.Prelude.{◌≡◌, ◌∷◌, ◌++◌, [], List, false, IfOk, OnOk, if◌then◌else◌};
 ghost use Rattle.raft_records.specs.Contents.{Contents, no_contents};
 ghost use Rattle.raft_crash_laws.specs.Crash.{written_batch};
@@ -18,15 +18,15 @@ use raft_script::{Op, Outcome};
 use std::alloc::{AllocError, Global};
 use std::mem;
 
-/// The images of what a crash may leave while nothing is in flight: those of the shorter prefixes
-/// with every covered batch, and that of the whole.
+/// The images that a crash may leave while nothing is in flight: those of the shorter prefixes
+/// with every covered batch, and that of the whole sequence.
 #[derive(Drop)]
 pub(crate) struct Reached {
     pub earlier: Vec<Image>,
     pub last: Image,
 }
 
-/// One more operation, with its outcome.
+/// Adds an operation with its outcome.
 pub(crate) fn go_on(
     alloc: Global,
     reached: &mut Reached,
@@ -42,7 +42,7 @@ pub(crate) fn go_on(
     Ok(())
 }
 
-// Those of the batches that were accepted.
+// Adds the operation's accepted batches.
 fn accept(
     alloc: Global,
     reached: &mut Reached,
@@ -104,7 +104,7 @@ fn put_last(reached: &mut Reached, image: Image) -> Image
     mem::replace(&mut reached.last, image)
 }
 
-// An operation that covers what was accepted leaves no earlier image.
+// After an operation that makes all accepted batches durable, no earlier image may be left.
 fn cover(reached: &mut Reached, op: &Op, outcome: &Outcome)
     ensures { (p : Progress) → IsReached p reached.old
         → IsReached (covered_if p op.now outcome.now) reached.new }
@@ -122,8 +122,8 @@ fn forget(reached: &mut Reached)
     reached.earlier.clear();
 }
 
-/// The images of what a crash may leave if some choice of these batches, in order and without the
-/// refused ones, is in flight after this. For n batches there are up to 2^n.
+/// The images that a crash may leave if any choice of these batches, in order and without the
+/// refused ones, is in flight. For n batches there are up to 2^n.
 pub(crate) fn in_flight(
     alloc: Global,
     last: Image,
@@ -141,7 +141,7 @@ pub(crate) fn in_flight(
     Ok(found)
 }
 
-// These images, and for each of them that takes the batch the one after it.
+// These images, and after each that accepts the batch the image with it.
 fn with_taken(
     alloc: Global,
     found: Vec<Image>,

@@ -1,16 +1,16 @@
-//! What groups are asked as rows of a table, and the items that say it.
+//! Changes of a group as rows of a table, and their items.
 
 use crate::changes::key_value_of;
 use raft_records::{Command, EntryIndex, FileBlockHandle, FileId, LogItem, LogItemContent};
 use std::alloc::{AllocError, Global};
 
-/// What is asked of a group.
+/// A change of a group.
 pub(crate) enum Ask {
     /// Entries with these indexes.
     Put(&'static [u64]),
     Compact(u64),
     Clean,
-    /// A key, and its new value, unless it is deleted.
+    /// A key, and its new value; `None` deletes the key.
     Key(&'static [u8], Option<&'static [u8]>),
 }
 
@@ -50,7 +50,7 @@ pub(crate) fn item_of(
     })
 }
 
-/// An item of group 1.
+/// The item of group 1 that makes this change.
 pub(crate) fn one_item(alloc: Global, id: FileId, ask: &Ask) -> Result<Vec<LogItem>, AllocError> {
     let mut items = Vec::new(alloc);
     items.push(item_of(alloc, 1, id, ask)?)?;

@@ -1,4 +1,4 @@
-//! Batches, and the records that are encoded for them: laid out by hand, with checksums by Python's zlib.
+//! Batches and their records, laid out by hand, with checksums by Python's zlib.
 
 use crate::changes::{Change, add, are_items, is_joined};
 use crate::told::assert_row;
@@ -9,20 +9,20 @@ use std::alloc::Global;
 
 enum Step {
     Add(Change),
-    /// A put at this key is refused as an invalid argument.
+    /// A put of this key is refused as an invalid argument.
     RefusePut(&'static [u8]),
-    /// Takes the items of a batch of these.
+    /// Takes the items of a second batch with these changes.
     Merge(&'static [Change]),
-    /// The record, before it is signed.
+    /// Encodes the batch. The record isn't signed yet.
     Populate(&'static [&'static [u8]]),
-    /// The record, signed for the file with this number, and written.
+    /// Signs the record for the file with this number, and writes it.
     Sign(Version, u64, &'static [&'static [u8]]),
     Copy,
-    /// The items leave the batch.
+    /// Takes the items out of the batch.
     Drain(&'static [Change]),
 }
 
-/// Steps from an empty batch on.
+/// Steps that begin with an empty batch.
 struct Script {
     name: &'static str,
     steps: &'static [Step],
@@ -30,7 +30,7 @@ struct Script {
 
 const PUT: &[Change] = &[Change(1, b"k", Some(b"v"))];
 
-/// The header of a record of 28 bytes, and the body of one put.
+/// The header of a record of 28 bytes, and the bytes of one put.
 const PUT_FRONT: &[u8] = &[
     0, 0, 0, 0, 0, 0, 28, 0, 0, 0, 0, 0, 0, 0, 0, 16, 1, 1, 3, 1, 1, b'k', 1, b'v',
 ];
@@ -143,7 +143,7 @@ fn drains(alloc: Global, batch: &mut LogBatch, changes: &[Change]) -> bool {
     batch.is_empty() && are_items(&items, changes)
 }
 
-// Whether the step comes to what the script says.
+// Whether the step ends as the script says.
 fn holds(alloc: Global, batch: &mut LogBatch, step: &Step) -> Result<bool, Fault> {
     match step {
         Step::Add(change) => {
@@ -171,7 +171,7 @@ fn all_hold(alloc: Global, batch: &mut LogBatch, steps: &[Step]) -> Result<bool,
     Ok(true)
 }
 
-// Whether each step comes to what the script says.
+// Whether each step ends as the script says.
 fn is_played(alloc: Global, script: &Script) -> Result<bool, Fault> {
     let mut batch = LogBatch::new(alloc);
     all_hold(alloc, &mut batch, script.steps)

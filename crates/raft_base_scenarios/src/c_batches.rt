@@ -1,4 +1,4 @@
-//! Batches that are read from bytes, and bytes that are none.
+//! Batches that are read from bytes, and bytes that are refused.
 
 use crate::items::{Part as Wanted, batch_of, have_same_bytes};
 use crate::told::assert_rows;
@@ -7,7 +7,7 @@ use raft_records::{Fault, LogBatch};
 use raft_rows::Row;
 use std::alloc::Global;
 
-/// Bytes, and the items that are read from them.
+/// Bytes, and the items read from them.
 struct Read(&'static [u8], &'static [Wanted]);
 
 static READ: [Read; 3] = [
@@ -53,21 +53,21 @@ fn batches_are_read(rt: HostRuntime) {
     assert_rows(&rt, rt.alloc(), &mut (), &READ);
 }
 
-/// Bytes from which no batch is read, and the code of the fault where they are one's.
+/// Bytes that are refused, and the fault's code if a fault is returned.
 struct Refused(&'static [u8], Option<u8>);
 
 static REFUSED: [Refused; 9] = [
     Refused(b"", None),
     Refused(b"\0\0\0\0\0\0\0", None),
     Refused(b"\0\0\0\0\0\0\0\x01", None),
-    // A kind that there isn't, a length past the end, and a byte behind the items.
+    // An unknown kind, a length past the end, and a byte after the items.
     Refused(b"\0\0\0\0\0\0\0\x01\x06\0\0\0\0\0\0\0\x07", None),
     Refused(
         b"\0\0\0\0\0\0\0\x01\x02\0\0\0\0\0\0\0\x07\0\0\0\0\0\0\0\x02k",
         None,
     ),
     Refused(b"\0\0\0\0\0\0\0\x01\x04\0\0\0\0\0\0\0\x07x", None),
-    // No entries, and one that is too short for an index.
+    // No entries, and an entry that is too short for an index.
     Refused(
         b"\0\0\0\0\0\0\0\x01\x03\0\0\0\0\0\0\0\x07\0\0\0\0\0\0\0\0",
         None,
@@ -77,7 +77,7 @@ static REFUSED: [Refused; 9] = [
         \0\0\0\0\0\0\0\x07\0\0\0\0\0\0\x05",
         None,
     ),
-    // A key of the engine's own.
+    // A key that the engine reserves for itself.
     Refused(
         b"\0\0\0\0\0\0\0\x01\x01\0\0\0\0\0\0\0\x07\0\0\0\0\0\0\0\x03__k\0\0\0\0\0\0\0\0",
         Some(1),

@@ -1,4 +1,4 @@
-//! Answers as bytes.
+//! Results as bytes.
 
 use crate::told::assert_rows;
 use raft_c_batch::{Entry, push_entries, push_numbers, push_pair};
@@ -6,14 +6,14 @@ use raft_records::Fault;
 use raft_rows::Row;
 use std::alloc::Global;
 
-/// What an answer has.
+/// A part of a result.
 enum Part {
     Pair(&'static [u8], &'static [u8]),
     Entry(&'static [u8]),
     Number(u64),
 }
 
-/// What is pushed, and the bytes that it leaves.
+/// A part, and its bytes.
 struct Pushed(Part, &'static [u8]);
 
 static PUSHED: [Pushed; 4] = [

@@ -1,9 +1,9 @@
-//! Changes of keys as rows of a table, and the items and batches that hold them.
+//! Changes of keys as rows of a table, and the items and batches that have them.
 
 use raft_records::{Fault, KeyValue, LogBatch, LogItem, LogItemContent};
 use std::alloc::{AllocError, Global};
 
-/// A group, its key, and the key's new value, unless it is deleted.
+/// A group, its key, and the key's new value; `None` deletes the key.
 pub(crate) struct Change(pub u64, pub &'static [u8], pub Option<&'static [u8]>);
 
 pub(crate) fn key_value_of(
@@ -21,7 +21,7 @@ pub(crate) fn key_value_of(
     }
 }
 
-/// Adds the items that hold the changes.
+/// Adds the items of these changes.
 pub(crate) fn push_items(
     alloc: Global,
     changes: &[Change],
@@ -59,7 +59,7 @@ fn is_item(item: &LogItem, change: &Change) -> bool {
     }
 }
 
-/// Whether the items hold these changes.
+/// Whether the items are those of these changes.
 pub(crate) fn are_items(items: &[LogItem], changes: &[Change]) -> bool {
     for (item, change) in items.iter().zip(changes) {
         if !is_item(item, change) {
@@ -77,7 +77,7 @@ pub(crate) fn add(alloc: Global, batch: &mut LogBatch, change: &Change) -> Resul
     }
 }
 
-/// Whether the bytes are the parts, one after the other.
+/// Whether the bytes are these parts, one after the other.
 pub(crate) fn is_joined(bytes: &[u8], parts: &[&[u8]]) -> bool {
     let mut rest = bytes;
     for part in parts {

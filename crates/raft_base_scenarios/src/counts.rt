@@ -1,4 +1,5 @@
-//! How many entries and values are placed in the Rewrite queue, and how many of them leave it.
+//! Counts of the entries and values that were written to the Rewrite queue, and of those deleted
+//! from it.
 
 use crate::asks::Ask;
 use crate::tables::apply_one;
@@ -14,7 +15,7 @@ enum Count {
     Reset,
 }
 
-/// What is counted, and how many are rewritten and deleted after it.
+/// What is counted, and the counts of rewritten and deleted ones afterwards.
 struct Counter(Count, u64, u64);
 
 static COUNTS: [Counter; 6] = [
@@ -49,8 +50,8 @@ fn what_was_rewritten_is_counted(rt: HostRuntime) {
     assert_rows(&rt, rt.alloc(), &mut stats, &COUNTS);
 }
 
-/// The queue of the file in which an item of group 1 stands, the item, and how many entries and
-/// values are rewritten, and how many of them deleted, after it.
+/// The queue of the file with an item of group 1, the item, and the counts of rewritten and
+/// deleted entries and values afterwards.
 struct Counted(LogQueue, Ask, u64, u64);
 
 static COUNTED: [Counted; 19] = [

@@ -1,10 +1,10 @@
-//! Files that are dropped, or that still stand, though they may not.
+//! Files that a purge must not drop, or must not keep: what changes if it does.
 ghost use Rattle.std.specs.Prelude.{◌≡◌, List, [], ◌∷◌};
 ghost use Rattle.raft_base_scenarios.specs.Rows.{after, compact, delete, entries, found, nothing, only, put, value};
 
-/// A front of the Append queue is dropped: with a key that is referred to (`referred`), with
-/// entries that the Rewrite queue doesn't have (`missing`), where it has entries before (`before`)
-/// or after (`later`) those that are recovered, or a key that isn't there (`key`).
+/// The first files of the Append queue are dropped too early: a key in them is still referred to
+/// (`referred`), or the Rewrite queue lacks their entries (`missing`), has entries before
+/// (`before`) or after (`later`) the recovered ones, or has a key that was removed (`key`).
 pub fn dropped_fronts_change_what_is_found()
     ensures referred { (found [] (put 1 ∷ []) ≡ value 1) × (found [] [] ≡ nothing) }
     ensures missing { (found [] (entries (5 ∷ []) ∷ []) ≡ only (5 ∷ [])) × (found [] [] ≡ nothing) }
@@ -16,8 +16,9 @@ pub fn dropped_fronts_change_what_is_found()
         × (found (put 1 ∷ []) [] ≡ value 1) }
 {}
 
-/// An older front that stands while one after it is gone sets what that one replaced (`older`), and
-/// entries that were accepted though they don't fit are found with others (`invalid`).
+/// A file is kept though a later one was dropped. Then it sets again what the dropped one had
+/// replaced (`older`), and entries that were accepted though they don't fit are found with others
+/// (`invalid`).
 pub fn fronts_with_a_hole_change_what_is_found()
     ensures older { (found (put 2 ∷ []) (put 1 ∷ put 2 ∷ []) ≡ value 2)
         × (found (put 2 ∷ []) (put 1 ∷ []) ≡ value 1) }

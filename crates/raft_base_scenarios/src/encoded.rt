@@ -1,4 +1,4 @@
-//! Batches of all kinds of items: the records that are encoded for them, and why there is none.
+//! Batches of all kinds of items: their records, or why encoding fails.
 
 ghost use Rattle.std.specs.Prelude.{◌≡◌, [], ◌∷◌};
 
@@ -55,7 +55,7 @@ fn add(
     }
 }
 
-/// No batch of a caller holds an item of no entries, the mark of an atomic group or a compressed
+/// A caller's batch never has an item without entries, an atomic group's mark, or a compressed
 /// block.
 fn is_encoded(record: &DecodedRecord) -> bool {
     for item in record.items {
@@ -81,7 +81,7 @@ fn batch_of(alloc: Global, record: &DecodedRecord) -> Result<LogBatch, Fault> {
     Ok(batch)
 }
 
-// Whether the batch is encoded as the record.
+// Whether the batch is encoded as this record.
 fn has_bytes(batch: &mut LogBatch, record: &DecodedRecord) -> Result<bool, Fault> {
     let len = batch.finish_populate()?;
     batch.prepare_write(&record.file);
@@ -89,7 +89,7 @@ fn has_bytes(batch: &mut LogBatch, record: &DecodedRecord) -> Result<bool, Fault
     Ok(len == record.len && batch.encoded_bytes() == wanted)
 }
 
-// Whether the batch is drained to the record's items.
+// Whether the items that the batch gives out are the record's.
 fn has_items(alloc: Global, batch: &mut LogBatch, record: &DecodedRecord) -> Result<bool, Fault> {
     batch.finish_write(FileBlockHandle {
         id: record.file.id,
@@ -118,7 +118,7 @@ fn decoded_records_are_encoded(rt: HostRuntime) {
     }
 }
 
-/// The indexes of each item's entries, and how the batch comes to no record.
+/// The indexes of each item's entries, and how encoding fails.
 struct NoRecord {
     name: &'static str,
     items: &'static [&'static [u64]],
@@ -214,7 +214,7 @@ fn lists_of_different_lengths_are_refused(rt: HostRuntime) {
     assert_row(&rt, is_left_empty(rt.alloc()), "an index without its entry");
 }
 
-/// An entry of one byte, which is its index.
+/// An entry of one byte: its index.
 #[derive(Drop)]
 struct Byte(u8);
 

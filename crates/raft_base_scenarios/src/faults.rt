@@ -1,4 +1,4 @@
-//! The texts of faults, and values that a factory makes.
+//! The texts of faults, and the values of a factory.
 ghost use Rattle.std.specs.Prelude.{◌≡◌, []};
 
 use crate::told::{assert_row, assert_rows};
@@ -6,7 +6,7 @@ use raft_records::{Factory, Fault, IoKind, LogBatch};
 use raft_rows::Row;
 use std::alloc::Global;
 
-/// The code of a fault, and its text.
+/// A fault's code and text.
 struct Text(u8, &'static str);
 
 static TEXTS: [Text; 18] = [

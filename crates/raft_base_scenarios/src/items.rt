@@ -1,4 +1,4 @@
-//! Items as rows of a table, and the batches that hold them.
+//! Items as rows of a table, and batches of them.
 
 use raft_records::{Command, EntryIndex, Fault, LogBatch};
 use std::alloc::Global;
@@ -7,9 +7,9 @@ use std::alloc::Global;
 pub(crate) enum Part {
     Put(u64, &'static [u8], &'static [u8]),
     Delete(u64, &'static [u8]),
-    /// One entry, by its index, of no bytes.
+    /// One entry with this index and no bytes.
     Entry(u64, u64),
-    /// Entries that follow on an index, each with its bytes.
+    /// Entries from this index on, each with its bytes.
     Entries(u64, u64, &'static [&'static [u8]]),
     Clean(u64),
     Compact(u64, u64),
@@ -17,7 +17,7 @@ pub(crate) enum Part {
 
 const NO_BYTES: &[&[u8]] = &[b""];
 
-/// Adds an entry to those of an item.
+/// Adds an entry to an item's entries.
 pub(crate) fn push_entry(
     alloc: Global,
     indexes: &mut Vec<EntryIndex>,
@@ -79,7 +79,7 @@ pub(crate) fn batch_of(alloc: Global, parts: &[Part]) -> Result<LogBatch, Fault>
     Ok(batch)
 }
 
-/// Whether two batches, of which neither is empty, are encoded to the same bytes.
+/// Whether two batches, neither of them empty, are encoded as the same bytes.
 pub(crate) fn have_same_bytes(one: &mut LogBatch, other: &mut LogBatch) -> Result<bool, Fault> {
     one.finish_populate()?;
     other.finish_populate()?;

@@ -1,5 +1,6 @@
-//! Tests of numbers, batches, records, tables and the rules of purges, each one loop over a table of cases; and the
-//! smallest cases in which what is recovered changes, each with one premise of a law left out.
+//! Tests of numbers, batches, records, tables and the rules of purges, each one loop over a table
+//! of cases. The smallest cases in which the recovered contents change, each without one premise
+//! of a law.
 #![tactic(auto)]
 
 #[cfg(test)]

@@ -1,4 +1,4 @@
-//! Listeners: what they hear, and what they keep from a purge.
+//! Listeners: what they hear, and which files they keep from a purge.
 
 use crate::told::assert_row;
 use raft_base::{Fault, FileBlockHandle, FileId, FileSeq, LogQueue};
@@ -7,7 +7,7 @@ use std::alloc::Global;
 use std::sync::Arc;
 use std::sync::atomic::{AtomicU64, Ordering};
 
-/// Notes a digit for each call, and keeps one file.
+/// A listener that notes a digit for each call and keeps one file.
 #[derive(Drop)]
 struct Counting {
     heard: Arc<AtomicU64>,
@@ -54,7 +54,7 @@ fn block(seq: FileSeq) -> FileBlockHandle {
     }
 }
 
-// A listener that notes there what it hears, and keeps that file.
+// A listener that notes in this list and keeps that file.
 fn noting(
     alloc: Global,
     heard: &Arc<AtomicU64>,
@@ -64,7 +64,7 @@ fn noting(
     Ok(Box::new(alloc, Counting { heard, kept })?)
 }
 
-// What keeps files before the record of file 3 is applied, and after it.
+// The first file that is kept before the record of file 3 is applied, and the first one after.
 fn barriers(listeners: &mut Listeners) -> Result<(FileSeq, FileSeq), Fault> {
     listeners.make_room(3)?;
     listeners.tell_files(LogQueue::Append, 1, 4);

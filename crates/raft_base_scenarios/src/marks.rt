@@ -1,9 +1,9 @@
-//! A mark that is missing, or that isn't the one that is owed, and a front of the Append queue that is dropped.
+//! A mark that is missing or wrong, and then a drop of the Append queue's first files.
 ghost use Rattle.std.specs.Prelude.{◌≡◌, List, [], ◌∷◌};
 ghost use Rattle.raft_base_scenarios.specs.Rows.{clean, compact, delete, entries, found, nothing, only, put, value};
 
-/// What was removed is back after the front with its removal is dropped, where no mark of it was
-/// written.
+/// If no mark of a removal was written, the removed thing is found again after a drop of the file
+/// with its removal.
 pub fn what_has_no_mark_comes_back()
     ensures delete { (found (put 1 ∷ []) (delete ∷ []) ≡ nothing)
         × (found (put 1 ∷ []) [] ≡ value 1) }
@@ -16,9 +16,8 @@ pub fn what_has_no_mark_comes_back()
         × (found (entries (3 ∷ []) ∷ []) (entries (4 ∷ []) ∷ []) ≡ only (3 ∷ 4 ∷ [])) }
 {}
 
-/// Marks of the wrong thing: a compaction below an empty group's last index lets its entries come
-/// back, one above the first entry takes entries away, and so does a delete of a key that is
-/// there.
+/// Marks of the wrong thing. A compaction below an empty group's last index brings its entries
+/// back. One above the first entry removes entries, and a delete of an existing key removes it.
 pub fn marks_of_something_else_change_what_is_found()
     ensures below { (found (entries (6 ∷ []) ∷ compact 3 ∷ []) (compact 9 ∷ []) ≡ nothing)
         × (found (entries (6 ∷ []) ∷ compact 3 ∷ []) [] ≡ only (6 ∷ [])) }

@@ -39,7 +39,7 @@ static NUMBERS: [Number; 8] = [
     ),
 ];
 
-/// Bytes that begin with no number of the form.
+/// Bytes that don't begin with a number of the form.
 struct NoNumber(Form, &'static [u8]);
 
 static REFUSED: [NoNumber; 7] = [
@@ -60,10 +60,10 @@ static REFUSED: [NoNumber; 7] = [
     ),
 ];
 
-/// A byte that stands after a number.
+/// A byte after a number.
 const BEHIND: &[u8] = &[0xEE];
 
-// In place of a number for which the form has no room 0 is written.
+// Writes 0 if the form has no room for the number.
 fn push(form: &Form, bytes: &mut Vec<u8>, number: u64) -> Result<(), AllocError> {
     match form {
         Form::Eight => push_u64(bytes, number),
@@ -91,7 +91,7 @@ fn len_of(form: &Form, number: u64) -> usize {
     }
 }
 
-// Whether the number is read, and this byte is left.
+// Whether this number is read, and the byte after it remains.
 fn is_taken(form: &Form, bytes: &[u8], number: u64) -> bool {
     match take(form, bytes) {
         Some((taken, rest)) => taken == number && rest == BEHIND,
@@ -102,7 +102,7 @@ fn is_taken(form: &Form, bytes: &[u8], number: u64) -> bool {
 impl Row for Number {
     type State = ();
 
-    // The bytes are written, and the number is read from them.
+    // The number is written as these bytes, and read from them.
     fn holds(&self, alloc: Global, _: &mut ()) -> Result<bool, Fault> {
         let Number(form, number, wanted) = self;
         let mut bytes = Vec::new(alloc);
@@ -131,7 +131,7 @@ fn other_bytes_are_no_number(rt: HostRuntime) {
     assert_rows(&rt, rt.alloc(), &mut (), &REFUSED);
 }
 
-/// Bytes, how many of `(7 * i + 3) % 256` stand behind them, and the checksum of all by zlib.
+/// Bytes, the number of bytes `(7 * i + 3) % 256` after them, and zlib's checksum of all.
 struct Checksum(&'static [u8], u32, u32);
 
 static CHECKSUMS: [Checksum; 10] = [

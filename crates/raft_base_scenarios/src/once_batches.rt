@@ -1,4 +1,5 @@
-//! Batches: where they first change a number, and with numbers behind them.
+//! Batches with numbers: the first item that changes a number, and the batch after numbers are
+//! added.
 
 use crate::items::{Part, batch_of};
 use crate::told::assert_rows;
@@ -7,7 +8,7 @@ use raft_once::{add_numbers, number_item_at};
 use raft_rows::Row;
 use std::alloc::Global;
 
-/// A batch, and the place of the first item that changes a number.
+/// A batch, and the place of its first item that changes a number.
 struct Place(&'static [Part], Option<usize>);
 
 static PLACES: [Place; 9] = [
@@ -65,7 +66,7 @@ fn the_first_item_that_changes_a_number_is_found(rt: HostRuntime) {
     assert_rows(&rt, rt.alloc(), &mut (), &PLACES);
 }
 
-/// A batch, numbers of groups, and the batch with them.
+/// A batch, numbers of groups, and the batch with these numbers.
 struct Numbered(&'static [Part], &'static [(u64, u64)], &'static [Part]);
 
 static NUMBERED: [Numbered; 4] = [

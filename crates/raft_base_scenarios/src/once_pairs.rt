@@ -1,4 +1,4 @@
-//! The numbers in values, and pairs of a group and a number.
+//! Numbers in values, and pairs of a group and a number.
 
 use crate::told::assert_rows;
 use raft_base::Fault;
@@ -6,7 +6,7 @@ use raft_once::{are_unfit, is_number_key, kept_number};
 use raft_rows::Row;
 use std::alloc::Global;
 
-/// A value, and the number in it.
+/// A value, and the number that it holds.
 struct Kept(&'static [u8], u64);
 
 static KEPT: [Kept; 8] = [
@@ -34,7 +34,7 @@ fn a_number_is_a_value_of_eight_bytes(rt: HostRuntime) {
     assert_rows(&rt, rt.alloc(), &mut (), &KEPT);
 }
 
-/// Pairs, and whether they are unfit.
+/// Pairs, and whether they are refused.
 struct Pairs(&'static [(u64, u64)], bool);
 
 static PAIRS: [Pairs; 8] = [
@@ -61,7 +61,7 @@ fn each_group_stands_once_in_pairs(rt: HostRuntime) {
     assert_rows(&rt, rt.alloc(), &mut (), &PAIRS);
 }
 
-/// A key, and whether a group keeps its number there.
+/// A key, and whether it is the one under which a group's number is kept.
 struct Key(&'static [u8], bool);
 
 static KEYS: [Key; 6] = [

@@ -8,10 +8,11 @@ use raft_rows::Row;
 use raft_tables::{GlobalStats, MemTableRecoverContext, MemTables};
 use std::alloc::Global;
 
-/// What group 1 was asked in the Rewrite queue and in the Append queue.
+/// The changes of group 1 in the Rewrite queue and in the Append queue.
 struct Queues(&'static [Ask], &'static [Ask]);
 
-/// Its entries, what it has at `k`, and how many of the Rewrite queue's entries and values are gone.
+/// The group's entries, its value at `k`, and how many of the Rewrite queue's entries and values
+/// were deleted.
 struct Found(&'static [Entry], Held, u64);
 
 struct Opening(Queues, Found);
@@ -37,7 +38,7 @@ static OPENINGS: [Opening; 14] = [
         Queues(&[Ask::Put(&[1, 2]), Ask::Key(b"k", Some(b"1"))], &[]),
         Found(&[(1, REWRITE), (2, REWRITE)], Some((b"1", REWRITE)), 0),
     ),
-    // Entries right after the rewritten ones, and over the last of them.
+    // Entries right after the rewritten ones, and entries that replace the last of them.
     Opening(
         Queues(&[Ask::Put(&[1, 2])], &[Ask::Put(&[3])]),
         Found(&[(1, REWRITE), (2, REWRITE), (3, APPEND)], None, 0),
@@ -46,7 +47,8 @@ static OPENINGS: [Opening; 14] = [
         Queues(&[Ask::Put(&[1, 2, 3])], &[Ask::Put(&[2, 3])]),
         Found(&[(1, REWRITE), (2, APPEND), (3, APPEND)], None, 2),
     ),
-    // The Append queue's own entries don't touch one another, and its last ones touch the rewritten.
+    // The Append queue's entries aren't consecutive, and its last ones are next to the rewritten
+    // ones.
     Opening(
         Queues(
             &[Ask::Put(&[1, 2, 3])],
@@ -54,12 +56,12 @@ static OPENINGS: [Opening; 14] = [
         ),
         Found(&[(1, REWRITE), (2, REWRITE), (3, APPEND)], None, 1),
     ),
-    // The least start counts, though later entries replace those that had it.
+    // The lowest first index counts, also if later entries replaced that entry.
     Opening(
         Queues(&[Ask::Put(&[1, 2, 3])], &[Ask::Put(&[2]), Ask::Put(&[4])]),
         Found(&[(4, APPEND)], None, 3),
     ),
-    // Entries far after the rewritten ones replace them.
+    // Entries that begin far after the rewritten ones replace them.
     Opening(
         Queues(&[Ask::Put(&[1, 2, 3])], &[Ask::Put(&[7])]),
         Found(&[(7, APPEND)], None, 3),
@@ -139,7 +141,7 @@ fn replay(
     Ok(())
 }
 
-// The tables of an opening over both queues.
+// The tables that an opening makes of both queues.
 fn opened(alloc: Global, queues: &Queues, stats: &mut GlobalStats) -> Result<MemTables, Fault> {
     let mut tables = MemTables::new(alloc);
     rewrite(alloc, &mut tables, queues.0, stats)?;

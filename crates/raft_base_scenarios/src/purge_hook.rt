@@ -1,4 +1,4 @@
-//! The hook: which file isn't ready for a purge.
+//! The hook: the first file that a purge may not drop yet.
 
 use crate::told::assert_rows;
 use raft_base::Fault;
@@ -6,7 +6,7 @@ use raft_listeners::PurgeHook;
 use raft_rows::Row;
 use std::alloc::Global;
 
-/// A call of the hook with the number of a file.
+/// A call of the hook with a file's number.
 enum Step {
     New(u64),
     Append(u64),
@@ -14,7 +14,7 @@ enum Step {
     Purged(u64),
 }
 
-/// A call, whether it is answered, and the first file that isn't ready then.
+/// A call, whether it succeeds, and the first file that isn't ready afterwards.
 struct Call(Step, bool, Option<u64>);
 
 static CALLS: [Call; 15] = [

@@ -1,4 +1,5 @@
-//! Plans of purges in a row: which groups are asked for, and which are rewritten.
+//! Plans of consecutive purges: the groups that the caller should compact, and those that are
+//! rewritten.
 
 use crate::told::assert_right;
 use raft_base::{FileBlockHandle, FileId, LogQueue};
@@ -9,13 +10,15 @@ use raft_tables::{GlobalStats, MemTables};
 use std::alloc::{AllocError, Global};
 use std::mem;
 
-/// A group that has entries in a file of the Append queue: so many, from index 1 on.
+/// A group with entries in a file of the Append queue: the group, the file, and the number of
+/// entries, which begin at index 1.
 struct Placed(u64, u64, u64);
 
-/// The first is old and heavy, the second has little before the watermark, and the third nothing.
+/// The first group is old and has many entries, the second has few before the watermark, and the
+/// third none.
 static PLACED: [Placed; 3] = [Placed(1, 1, 40), Placed(2, 5, 31), Placed(3, 9, 50)];
 
-/// Whether the Append queue needs a rewriting, the groups that are asked for then, and those that are
+/// Whether the Append queue needs a rewriting, the groups to compact, and the groups that are
 /// rewritten.
 struct Round(bool, &'static [u64], &'static [u64]);
 
@@ -71,7 +74,7 @@ fn are(groups: &[u64], wanted: &[u64]) -> bool {
     groups == wanted
 }
 
-/// Plans a purge, and keeps its counts: whether these groups are asked for and rewritten.
+/// Plans a purge and keeps its counts. Returns whether the plan names these groups.
 fn plans(
     alloc: Global,
     tables: &MemTables,
@@ -102,7 +105,7 @@ impl Row for Round {
     }
 }
 
-// The place of the first round that goes otherwise.
+// The index of the first round that ends otherwise.
 fn wrong_round(alloc: Global) -> Result<Option<usize>, Fault> {
     let mut state = (tables_of(alloc, &PLACED)?, Rounds::new(alloc));
     first_wrong(alloc, &mut state, &ROUNDS)

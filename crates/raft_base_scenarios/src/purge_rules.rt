@@ -1,4 +1,4 @@
-//! Watermarks, and when a queue needs a rewriting.
+//! Watermarks, and the rule of when a queue needs a rewriting.
 
 use crate::told::assert_rows;
 use raft_base::{Fault, ReadableSize};
@@ -9,7 +9,8 @@ use raft_purge_rules::{
 use raft_rows::Row;
 use std::alloc::Global;
 
-/// The first and the last file, the last one that is rewritten, and the first one to which no old group refers.
+/// The first and the last file, the last file that is rewritten, and the first file to which no
+/// old group refers.
 struct Marks(u64, u64, u64, u64);
 
 static MARKS: [Marks; 6] = [
@@ -40,7 +41,8 @@ fn watermarks_are_before_the_last_file(rt: HostRuntime) {
     assert_rows(&rt, rt.alloc(), &mut (), &MARKS);
 }
 
-/// Files of 1 KB each over a threshold of 10 KB: whether the Append queue needs a rewriting.
+/// A number of files of 1 KB, and whether the Append queue then needs a rewriting at a threshold
+/// of 10 KB.
 struct Full(u64, bool);
 
 static FULL: [Full; 4] = [
@@ -67,8 +69,8 @@ fn a_queue_above_its_threshold_needs_a_rewriting(rt: HostRuntime) {
     assert_rows(&rt, rt.alloc(), &mut (), &FULL);
 }
 
-/// Of ten rewritten entries so many are garbage, over a ratio of 600 thousandths: whether the Rewrite queue needs a
-/// rewriting, if it has so many files of 1 KB over a threshold of 2 KB.
+/// A number of files of 1 KB, how many of ten rewritten entries are garbage, and whether the
+/// Rewrite queue then needs a rewriting at a threshold of 2 KB and a ratio of 0.6.
 struct Garbage(u64, u64, bool);
 
 static GARBAGE: [Garbage; 5] = [

@@ -1,8 +1,10 @@
-//! Records that are decoded, as rows: what each holds. They were made by Python's struct and zlib.
+//! Records that are decoded, as rows with the content of each. They were made by Python's struct
+//! and zlib.
 
 use raft_records::{FileId, LogFileContext, LogQueue, Version};
 
-/// An item of a record. An entry is its index, and its offset and length in the entries block.
+/// An item of a record. An entry is given by its index, and by its offset and length in the
+/// entries block.
 pub(crate) enum WantedItem {
     Entries(u64, &'static [(u64, u32, u32)]),
     Clean(u64),
@@ -13,8 +15,8 @@ pub(crate) enum WantedItem {
 
 use WantedItem::{Clean, Compact, Delete, Entries, Put};
 
-/// Bytes at an offset of a file, the record that they begin with, and its entries block: where it
-/// stands, its length, and whether it is marked as compressed.
+/// Bytes at an offset of a file, the record with which they begin, and its entries block: its
+/// place, its length, and whether it is marked as compressed.
 pub(crate) struct DecodedRecord {
     pub name: &'static str,
     pub file: LogFileContext,
@@ -65,8 +67,8 @@ pub(crate) const FILE_2_AND_2_32: LogFileContext = LogFileContext {
     version: Version::V2,
 };
 
-/// The rows in several tables, each named here alone: a function is checked with all of each table
-/// that it names, and that grows with the square of the table.
+/// The rows in several tables, each named only here: a function is checked with the whole of each
+/// table that it names, and the time grows with the square of the table's length.
 pub(crate) fn decoded() -> [&'static [DecodedRecord]; 4] {
     [&EACH_KIND, &SEVERAL_ENTRIES, &COMMANDS_AND_KEYS, &NUMBERS]
 }

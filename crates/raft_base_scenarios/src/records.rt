@@ -1,4 +1,4 @@
-//! Records as bytes: what is read and replayed of them.
+//! Records as bytes: how they are read and replayed.
 
 use crate::changes::key_value_of;
 use crate::record_rows::{DecodedRecord, UNSIGNED, WantedItem, decoded};
@@ -102,7 +102,7 @@ fn is_record(
     }
 }
 
-// Whether the bytes are read and replayed to what the record holds.
+// Whether reading and replaying the bytes give the record's content.
 fn is_decoded(alloc: Global, record: &DecodedRecord) -> Result<bool, Fault> {
     let items = items_of(alloc, record)?;
     for sound in &[true, false] {
@@ -149,7 +149,8 @@ fn broken_records_are_refused(rt: HostRuntime) {
     }
 }
 
-/// A put of `v` at `k` in group 1, and two entries of three and two bytes in group 7.
+/// A put of `v` at `k` in group 1, and a record with two entries of three and two bytes in group
+/// 7.
 static FOOTERS: [(&[u8], [(usize, bool, bool); 3]); 2] = [
     (
         b"\x01\x01\x03\x01\x01\x6b\x01\x76\xb1\x29\x48\xe8",
@@ -174,8 +175,8 @@ fn is_footer(alloc: Global, footer: &[u8], block: (usize, bool, bool)) -> bool {
     }
 }
 
-/// Each footer with lengths of the block before it, whether that is marked as compressed, and whether
-/// the footer is decoded.
+/// Each footer with lengths of the block before it, whether the block is marked as compressed, and
+/// whether the footer is decoded.
 #[test]
 fn footers_are_decoded(rt: HostRuntime) {
     for (footer, blocks) in &FOOTERS {
@@ -210,7 +211,7 @@ fn blocks_are_decoded(rt: HostRuntime) {
     }
 }
 
-/// Bytes, and the header that they begin with.
+/// Bytes, and the header with which they begin.
 static HEADERS: [(&[u8], Option<RecordHeader>); 2] = [
     (
         b"\x00\x00\x00\x00\x00\x00\x16\x01\x00\x00\x00\x00\x00\x00\x00\x11\x01\x00\x8d\xef\x02\xd2",

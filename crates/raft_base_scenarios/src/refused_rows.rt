@@ -1,11 +1,11 @@
-//! Bytes that begin with no record, or with one that is refused, as rows. They were made by Python's
-//! struct and zlib.
+//! Bytes that don't begin with a record, or begin with one that is refused, as rows. They were
+//! made by Python's struct and zlib.
 
 use crate::record_rows::{FILE_1, FILE_2, UNSIGNED};
 use raft_records::LogFileContext;
 
-/// Bytes in a file, the code of the fault that a reading answers, and that of a replay, which takes
-/// a record whose plain entries block is broken.
+/// Bytes in a file, the code of the fault with which reading them fails, and that of a replay,
+/// which accepts a record whose plain entries block is broken.
 pub(crate) struct RefusedRecord {
     pub name: &'static str,
     pub file: LogFileContext,
@@ -14,8 +14,8 @@ pub(crate) struct RefusedRecord {
     pub replayed: Option<u8>,
 }
 
-/// The rows in several tables, each named here alone: a function is checked with all of each table
-/// that it names, and that grows with the square of the table.
+/// The rows in several tables, each named only here: a function is checked with the whole of each
+/// table that it names, and the time grows with the square of the table's length.
 pub(crate) fn refused() -> [&'static [RefusedRecord]; 5] {
     [&BROKEN, &LENGTHS, &BLOCKS, &ITEMS, &OTHERS]
 }

@@ -1,9 +1,10 @@
-//! Entries written to the Rewrite queue again that don't fit, and parts of atomic groups.
+//! Entries that are written to the Rewrite queue again and don't fit, and parts of atomic groups.
 ghost use Rattle.std.specs.Prelude.{◌≡◌, List, [], ◌∷◌};
 ghost use Rattle.raft_base_scenarios.specs.Rows.{begin_group, delete, end_group, entries, found, nothing, only, put, value};
 
-/// Entries are gone where the new ones start after the first that the Append queue sets (`late`),
-/// don't touch what the Rewrite queue has (`apart`), or are a part of what stands there (`part`).
+/// Entries are lost if the new ones begin after the first that the Append queue sets (`late`),
+/// aren't consecutive to the Rewrite queue's entries (`apart`), or are only a part of these
+/// (`part`).
 pub fn entries_that_do_not_fit_replace_others()
     ensures late { (found (entries (3 ∷ 4 ∷ []) ∷ []) (entries (5 ∷ 6 ∷ []) ∷ [])
         ≡ only (3 ∷ 4 ∷ 5 ∷ 6 ∷ []))
@@ -17,9 +18,9 @@ pub fn entries_that_do_not_fit_replace_others()
         × (found (entries (3 ∷ 4 ∷ []) ∷ entries (3 ∷ []) ∷ []) [] ≡ only (3 ∷ [])) }
 {}
 
-/// Entries that are written again in two parts, of which the first alone would replace the others,
-/// are kept where both are one atomic group (`complete`), and so they are after a drop of the file
-/// with its first batch (`dropped`).
+/// Entries are written again in two parts. Without an atomic group the first part would replace
+/// the other entries. They are kept if both parts are one atomic group (`complete`), also after a
+/// drop of the file with its first batch (`dropped`).
 pub fn parts_of_an_atomic_group_replace_nothing()
     ensures complete { (found (entries (3 ∷ 4 ∷ []) ∷ []) [] ≡ only (3 ∷ 4 ∷ []))
         × (found (entries (3 ∷ 4 ∷ []) ∷ begin_group 8 (entries (3 ∷ []))
@@ -30,8 +31,8 @@ pub fn parts_of_an_atomic_group_replace_nothing()
         ≡ only (3 ∷ 4 ∷ [])) }
 {}
 
-/// A group that isn't complete changes nothing (`unfinished`), unless its id was used before
-/// (`same_id`). Where other batches stand between those of a group, a drop of the first file brings
+/// An incomplete atomic group changes nothing (`unfinished`), unless its id was used before
+/// (`same_id`). If other batches are between those of a group, a drop of the first file brings
 /// back what the group's last batch removed (`cut_key`, `cut_entries`).
 pub fn atomic_groups_need_ids_of_their_own()
     ensures unfinished { found (entries (3 ∷ 4 ∷ []) ∷ begin_group 8 (entries (3 ∷ [])) ∷ []) []

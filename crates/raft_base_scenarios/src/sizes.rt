@@ -5,7 +5,7 @@ use raft_records::{Fault, FileId, LogFileContext, LogQueue, ReadableSize, Versio
 use raft_rows::Row;
 use std::alloc::Global;
 
-/// A text, and the size that it stands for; else it is refused as an invalid argument.
+/// A text, and the size that it means; `None` if it is refused as an invalid argument.
 struct Size(&'static str, Option<u64>);
 
 static SIZES: [Size; 15] = [
@@ -49,7 +49,7 @@ enum Unit {
     Gb,
 }
 
-/// So many of a unit, and the size that is made.
+/// A number of units, and the size in bytes.
 struct Made(u64, Unit, u64);
 
 static MADE: [Made; 4] = [
@@ -78,7 +78,7 @@ fn sizes_are_made(rt: HostRuntime) {
     assert_rows(&rt, rt.alloc(), &mut (), &MADE);
 }
 
-/// A file, which comes after those of the rows before.
+/// A file that is later than those of the rows before.
 struct Later(LogQueue, u64);
 
 static FILES: [Later; 4] = [
@@ -105,7 +105,7 @@ fn rewrite_files_come_first(rt: HostRuntime) {
     assert_rows(&rt, rt.alloc(), &mut before, &FILES);
 }
 
-/// A version, a file's number, and what its records are signed with.
+/// A version, a file's number, and the number with which its records are signed.
 struct Signature(Version, u64, Option<u32>);
 
 static SIGNATURES: [Signature; 3] = [

@@ -1,10 +1,11 @@
-//! A sync that is left out before a step, and a crash that loses what it would have covered: what is found is then neither
-//! the durable contents nor a beginning of the batches after them.
+//! A step before which a sync is left out, and a crash that loses what the sync would have made
+//! durable. The recovered contents are then neither the durable ones nor those after some of the
+//! later batches.
 ghost use Rattle.std.specs.Prelude.{◌≡◌, List, [], ◌∷◌, ◌++◌};
 ghost use Rattle.raft_base_scenarios.specs.Rows.{both, clean, compact, delete, entries, found, nothing, only, put, value};
 
-/// The Append queue isn't synced before the step, and its last batches are lost. Each row has what
-/// is durable, what it is with each beginning of these batches, and what is found.
+/// The Append queue isn't synced before the step, and its last batches are lost. Each row has the
+/// durable contents, those with each number of the last batches, and the recovered ones.
 pub fn append_is_synced_before_a_purge_writes_or_drops()
     ensures compaction_mark { (found (entries (1 ∷ []) ∷ []) [] ≡ only (1 ∷ []))
         × (found (entries (1 ∷ []) ∷ []) (put 1 ∷ []) ≡ both (1 ∷ []) 1)
@@ -28,8 +29,8 @@ pub fn append_is_synced_before_a_purge_writes_or_drops()
         × (found [] [] ≡ nothing) }
 {}
 
-/// The Rewrite queue isn't synced before a front of the Append queue (`front`), or its own old
-/// files (`rewrite_files`), are dropped, and what was rewritten is lost.
+/// The Rewrite queue isn't synced before the Append queue's first files (`front`), or its own old
+/// files (`rewrite_files`), are dropped, and rewritten data is lost.
 pub fn rewrite_is_synced_before_a_drop()
     ensures front { (found (entries (5 ∷ []) ∷ []) (entries (5 ∷ []) ∷ []) ≡ only (5 ∷ []))
         × (found [] [] ≡ nothing) }

@@ -35,10 +35,10 @@ fn file(seq: u64) -> FileId {
     FileId::new(LogQueue::Append, seq)
 }
 
-/// The index of an entry, and the file in which it stands.
+/// The index of an entry, and its file.
 pub(crate) type Entry = (u64, FileId);
 
-/// What stands at a key: the value with its file, or nothing.
+/// The value at a key with its file; `None` if the key has none.
 pub(crate) type Held = Option<(&'static [u8], FileId)>;
 
 /// Whether items fit, or why the first of the others doesn't.
@@ -48,22 +48,22 @@ enum Fit {
     Range,
 }
 
-/// What is done with tables, or asked of them, and what it comes to.
+/// A change of tables or a read of them, and its result.
 enum Step {
-    /// The number of the file that the changes stand in, and the changes, of which no item is left.
+    /// The number of the file of the changes, and the changes. Applying them leaves no item.
     Changes(u64, &'static [Change]),
-    /// A group, its key, and what it holds there.
+    /// A group, its key, and the value with its file.
     Value(u64, &'static [u8], Held),
     /// The groups, in order.
     Groups(&'static [u64]),
     /// A group, and its keys with their values, in order.
     Pairs(u64, &'static [(&'static [u8], &'static [u8])]),
-    /// The number of the file in which an item of group 1 stands, the item, the entries after it, none of them with the
-    /// index 6, and whether the group is known then.
+    /// The number of the file of an item of group 1, the item, and the group's entries afterwards,
+    /// none with index 6. Then whether the group is known.
     Item(u64, Ask, &'static [Entry], bool),
-    /// The group of each item with the item, and whether they fit.
+    /// Items, each after its group, and whether they fit.
     Check(&'static [(u64, Ask)], Fit),
-    /// The first file in which something stands, and 99 for none.
+    /// The first file that the tables refer to; 99 if there is none.
     First(u64),
 }
 
@@ -169,7 +169,7 @@ static ENTRIES: [Step; 17] = [
     ),
 ];
 
-/// Items after the entries 1 to 3 of group 1.
+/// Items that are checked after group 1 has entries 1 to 3.
 static CHECKS: [Step; 19] = [
     Step::Item(
         1,
@@ -263,7 +263,7 @@ pub(crate) fn apply_one(
     tables.apply_append_writes(&mut items, id, stats)
 }
 
-// Applies changes: whether no item is left.
+// Applies changes. Returns whether no item is left.
 fn applies(
     alloc: Global,
     tables: &mut MemTables,
@@ -276,7 +276,7 @@ fn applies(
     Ok(items.is_empty())
 }
 
-/// Whether the group holds this at the key.
+/// Whether the group has this value at the key.
 pub(crate) fn has_value(tables: &MemTables, group: u64, key: &[u8], wanted: &Held) -> bool {
     match (tables.get(group, key), tables.place_of(group, key), wanted) {
         (Some(value), Some(place), Some((wanted, id))) => value == *wanted && place == *id,
@@ -306,7 +306,7 @@ fn has_pairs(
     Ok(are_pairs(&tables.pairs(group)?, wanted))
 }
 
-// The file in which the entry stands.
+// The file of the entry.
 fn file_of(tables: &MemTables, index: u64) -> Option<FileId> {
     let block = tables.entry(1, index)?.block?;
     Some(block.id)
@@ -321,7 +321,7 @@ fn is_span(tables: &MemTables, first: Option<&Entry>, last: Option<&Entry>) -> b
     }
 }
 
-/// Whether group 1 has these entries: between the first and the last index, each in its file.
+/// Whether group 1 has exactly these entries between its first and last index, each in its file.
 pub(crate) fn has_entries(tables: &MemTables, wanted: &[Entry]) -> bool {
     for (index, id) in wanted {
         if file_of(tables, *index) != Some(*id) {
@@ -331,7 +331,7 @@ pub(crate) fn has_entries(tables: &MemTables, wanted: &[Entry]) -> bool {
     is_span(tables, wanted.first(), wanted.last())
 }
 
-// Whether the item leaves these entries, and no entry 6.
+// Whether applying the item leaves these entries, and no entry 6.
 fn leaves(
     alloc: Global,
     tables: &mut MemTables,
@@ -359,7 +359,7 @@ fn push_asked(
     Ok(())
 }
 
-// Whether the items fit as is wanted.
+// Whether the check of the items has this outcome.
 fn fits(
     alloc: Global,
     tables: &MemTables,
@@ -424,10 +424,10 @@ fn the_first_file_is_found(rt: HostRuntime) {
     assert_rows(&rt, rt.alloc(), &mut tables, &FIRST_FILES);
 }
 
-/// What the key of a table holds, or nothing.
+/// A value that the key of a table gets; `None` deletes the key.
 struct Value(Option<&'static [u8]>);
 
-/// One after the other.
+/// Changes of one key, in order.
 static HELD: [Value; 4] = [
     Value(Some(&[2])),
     Value(Some(&[3])),
@@ -435,7 +435,7 @@ static HELD: [Value; 4] = [
     Value(Some(&[4])),
 ];
 
-// Whether this is all that the table holds.
+// Whether the table has exactly this value, or is empty.
 fn is_held(table: &MemTable, value: Option<&[u8]>) -> bool {
     match (table.get(&[1]), table.place(&[1]), value) {
         (Some(held), Some(place), Some(value)) => {

@@ -1,11 +1,11 @@
-//! What tests assert of rows: the first that comes to something else is told.
+//! Assertions over rows. The first row that fails is named.
 
 use raft_records::Fault;
 use raft_rows::{Row, first_wrong};
 use std::alloc::Global;
 use std::process::Abort;
 
-/// Each row of a table comes to what it says; else the place of the first that doesn't is told.
+/// Asserts each row of a table, and names the first that fails by its place.
 pub(crate) fn assert_rows<R: Abort, T: Row>(
     rt: &R,
     alloc: Global,
@@ -15,12 +15,12 @@ pub(crate) fn assert_rows<R: Abort, T: Row>(
     assert_right(rt, first_wrong(alloc, state, rows));
 }
 
-/// No row comes to something else, of which this is the first place.
+/// Asserts that no row failed; `wrong` is the place of the first that did.
 pub(crate) fn assert_right<R: Abort>(rt: &R, wrong: Result<Option<usize>, Fault>) {
     assert!(rt; matches!(wrong, Ok(None)), "row {wrong:?}");
 }
 
-/// What has this name comes to what it says.
+/// Asserts the row of this name.
 pub(crate) fn assert_row<R: Abort>(rt: &R, held: Result<bool, Fault>, name: &str) {
     assert!(rt; matches!(held, Ok(true)), "{name}: {held:?}");
 }

@@ -1,4 +1,4 @@
-//! A file that is read in blocks of different sizes.
+//! One file, read in blocks of different sizes.
 
 use crate::failing::Failing;
 use crate::in_memory::{Tried, holds_in_memory};
@@ -11,14 +11,14 @@ use std::alloc::Global;
 
 const PATH: &str = "log";
 
-/// A header of version 1, of 61 bytes.
+/// A header of version 1: 61 bytes.
 const HEADER: &[u8] =
     b"RAFT-LOG-FILE-HEADER-9986AB3E47F320B394C8E84916EB0ED5\x00\x00\x00\x00\x00\x00\x00\x01";
 
-/// How many records the file has: from some 30 to over 20,000 bytes.
+/// The number of records in the file. A record has from some 30 to over 20,000 bytes.
 const RECORDS: usize = 200;
 
-/// Sizes of blocks, the last longer than the file.
+/// Sizes of blocks in bytes. The last is greater than the file.
 static SIZES: [usize; 5] = [0, 1, 512, 16384, 1_048_576];
 
 // Every twentieth record is long.
@@ -39,7 +39,7 @@ fn record_of(alloc: Global, place: usize) -> Result<LogBatch, Fault> {
     Ok(batch)
 }
 
-// Writes at the end of the file, and answers its end then.
+// Appends bytes to the file and returns its new length.
 fn append<F: FileSystem>(fs: &mut F, part: &[u8]) -> Result<usize, FsFault> {
     let handle = fs.create(PATH)?;
     let mut writer = fs.new_writer(&handle)?;
@@ -48,7 +48,7 @@ fn append<F: FileSystem>(fs: &mut F, part: &[u8]) -> Result<usize, FsFault> {
     fs.file_size(&handle)
 }
 
-// Adds a record, and the file's end after it.
+// Appends a record, and adds the file's new length to `ends`.
 fn adds<F: FileSystem>(fs: &mut F, alloc: Global, place: usize, ends: &mut Vec<usize>) -> bool {
     let Ok(record) = record_of(alloc, place) else {
         return false;
@@ -59,7 +59,7 @@ fn adds<F: FileSystem>(fs: &mut F, alloc: Global, place: usize, ends: &mut Vec<u
     }
 }
 
-// Writes the file, and notes the ends of all its records.
+// Writes the whole file, and adds the end of each record to `ends`.
 fn writes<F: FileSystem>(fs: &mut F, alloc: Global, ends: &mut Vec<usize>) -> bool {
     if append(fs, HEADER).is_err() {
         return false;
@@ -77,7 +77,7 @@ fn file_reader<F: FileSystem>(fs: &mut F) -> Result<LogFileReader<F>, FsFault> {
     LogFileReader::open(fs, &handle)
 }
 
-// Opens the file behind its header.
+// Opens the file for reading, after its header.
 fn opens<F: FileSystem>(fs: &mut F, records: &mut LogItemBatchFileReader<F>) -> bool {
     match file_reader(fs) {
         Ok(reader) => {
@@ -89,7 +89,8 @@ fn opens<F: FileSystem>(fs: &mut F, records: &mut LogItemBatchFileReader<F>) -> 
     }
 }
 
-// The code of the fault that the next record is refused with; 0 if it ends at this place.
+// The code of the fault with which reading the next record fails; 0 if the record ends at this
+// place.
 fn next_code<F: FileSystem>(fs: &F, records: &mut LogItemBatchFileReader<F>, end: usize) -> u8 {
     match records.next(fs, PATH) {
         Ok(Some(_)) if records.valid_offset() == end => 0,
@@ -98,7 +99,7 @@ fn next_code<F: FileSystem>(fs: &F, records: &mut LogItemBatchFileReader<F>, end
     }
 }
 
-// How many records are read before the first that isn't, and that one's code; 0 if all are.
+// The number of records read before the first failure, and the code of its fault; 0 if none fails.
 fn read_all<F: FileSystem>(
     fs: &F,
     records: &mut LogItemBatchFileReader<F>,
@@ -113,7 +114,7 @@ fn read_all<F: FileSystem>(
     (ends.len(), 0)
 }
 
-// Whether so many records are read and then this fault comes, with blocks of a size.
+// Whether so many records are read in blocks of this size before this fault.
 fn reads<F: FileSystem>(
     fs: &mut F,
     alloc: Global,
@@ -127,7 +128,7 @@ fn reads<F: FileSystem>(
     is_read
 }
 
-// .. with blocks of each size.
+// The same with blocks of each size.
 fn each_reads<F: FileSystem>(
     fs: &mut F,
     alloc: Global,
@@ -148,13 +149,13 @@ fn cut<F: FileSystem>(fs: &mut F, size: usize) -> Result<(), FsFault> {
     fs.truncate(&mut writer, size)
 }
 
-// Whether all records but the last are read of a file that lacks a byte.
+// Whether all records except the last are read from a file without its last byte.
 fn reads_others<F: FileSystem>(fs: &mut F, alloc: Global, ends: &[usize]) -> bool {
     let end = ends.last().copied().unwrap_or(0);
     cut(fs, end.saturating_sub(1)).is_ok() && each_reads(fs, alloc, ends, (RECORDS - 1, 2))
 }
 
-// Whether a read that is refused behind the opening shows before the last record.
+// Whether a read that fails after the opening is reported before the last record.
 fn shows<F: Failing>(fs: &mut F, alloc: Global, ends: &[usize]) -> bool {
     let mut records = LogItemBatchFileReader::new(alloc, 512);
     let is_armed = opens(fs, &mut records) && fs.fail(FsCall::Read, 1, IoKind::Other).is_ok();
@@ -163,7 +164,7 @@ fn shows<F: Failing>(fs: &mut F, alloc: Global, ends: &[usize]) -> bool {
     is_armed && read < RECORDS && code == 3
 }
 
-/// Whether all records are read with blocks of each size, also if a read is refused or a byte is
+/// Whether all records are read with blocks of each size. Then a read is refused, and a byte is
 /// missing.
 pub(crate) fn is_read_in_blocks<F: Failing>(fs: &mut F, alloc: Global) -> bool {
     let mut ends = Vec::new(alloc);

@@ -1,4 +1,4 @@
-//! Writers and readers that are built by a file's path.
+//! Writers and readers that are made for a file's path.
 
 ghost use Rattle.raft_files.specs.Header.{HasHeader};
 
@@ -11,7 +11,7 @@ use raft_records::Version;
 use raft_rows::{FileParts, HEADER, PUT, fill, store};
 use std::alloc::Global;
 
-/// A path, whether the file is asked for, and where its writer stands, or a fault's code.
+/// A path, whether the file is to be created, and the offset of its new writer, or a fault's code.
 pub(crate) type Writer = (&'static str, bool, Result<usize, u8>);
 
 static WRITERS: [Writer; 5] = [
@@ -34,7 +34,7 @@ fn written<F: FileSystem>(
     }
 }
 
-// How long the file is that a reader then finds.
+// The length of the file that a reader then finds.
 fn read_len<F: FileSystem>(alloc: Global, fs: &mut F, path: &str) -> Result<usize, u8> {
     match build_file_reader(alloc, fs, path) {
         Ok(reader) => Ok(reader.file_size()),
@@ -42,7 +42,7 @@ fn read_len<F: FileSystem>(alloc: Global, fs: &mut F, path: &str) -> Result<usiz
     }
 }
 
-/// Whether the file's writer and a reader after it come to what the row says.
+/// Whether the writer has the row's offset or fault, and a reader opened after it agrees.
 pub(crate) fn is_built<F: FileSystem>(fs: &mut F, alloc: Global, row: &Writer) -> bool {
     let (path, create, offset) = *row;
     let files: &[FileParts] = &[("a/found", &[HEADER, PUT]), ("a/short", &[PUT])];
@@ -63,8 +63,8 @@ fn writers_stand_behind_a_header(rt: HostRuntime) {
     }
 }
 
-/// The version of a header that is in a file, how many bytes of it are there, and the version in which the file is
-/// then written.
+/// The version of a header, how many of its bytes are in the file, and the version that a writer
+/// then gives the file.
 pub(crate) struct Begun(Version, usize, Version);
 
 static BEGUN: [Begun; 6] = [
@@ -87,7 +87,7 @@ fn format_of(version: Version) -> LogFileFormat
     }
 }
 
-// Puts the first bytes of a header into a file.
+// Writes the first `len` bytes of a header to a file.
 fn begins<F: FileSystem>(alloc: Global, fs: &mut F, version: Version, len: usize) -> bool {
     let mut bytes = Vec::new(alloc);
     if fill(fs, alloc, &[]).is_err() || format_of(version).encode(&mut bytes).is_err() {
@@ -97,7 +97,7 @@ fn begins<F: FileSystem>(alloc: Global, fs: &mut F, version: Version, len: usize
     store(fs, BEGUN_PATH, &[&bytes]).is_ok()
 }
 
-// Makes a writer of this version for the file.
+// Whether a writer of this version can be made for the file.
 fn makes_writer<F: FileSystem>(alloc: Global, fs: &mut F, version: Version) -> bool {
     match build_file_writer(alloc, fs, BEGUN_PATH, format_of(version), false) {
         Ok(writer) => {
@@ -120,7 +120,7 @@ fn has_format<F: FileSystem>(alloc: Global, fs: &mut F, format: LogFileFormat) -
     }
 }
 
-/// Whether a file that begins so has the writer's header.
+/// Whether a writer replaces a partly written header by a whole one of its version.
 pub(crate) fn is_written_again<F: FileSystem>(fs: &mut F, alloc: Global, row: &Begun) -> bool {
     let Begun(from, len, to) = row;
     begins(alloc, fs, *from, *len)

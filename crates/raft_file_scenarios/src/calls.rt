@@ -1,4 +1,4 @@
-//! Calls on the files of a folder: what each is answered, and what then stands on the disk.
+//! Calls on the files of a folder: the result of each, and the bytes that are then on the disk.
 
 use crate::disk::{Disk, Reading};
 use crate::in_folder::{Tried, holds_in_folder};
@@ -26,20 +26,20 @@ const Z: &str = "0000000000000005.raftlog";
 
 const LATER: &str = "0000000000000006.raftlog";
 
-/// In a folder that is made.
+/// A file in a folder that a step makes.
 const INNER: &str = "d/0000000000000002.raftlog";
 
-/// In one that isn't.
+/// A file in a folder that no step makes.
 const AWAY: &str = "f/0000000000000002.raftlog";
 
-/// A call on the files of a folder, or what another program does.
+/// A call on the files of a folder, or an action of another program.
 #[derive(Clone, Copy)]
 pub(crate) enum Step {
     MakeDir(&'static str),
     Create(&'static str),
     Delete(&'static str),
     Rename(&'static str, &'static str),
-    /// Makes the writer by which later steps write. It means what stands at this path then.
+    /// Makes the writer that later steps use, for the file that has this path at that time.
     Writer(&'static str),
     Write(usize, &'static [u8]),
     Truncate(usize),
@@ -49,10 +49,11 @@ pub(crate) enum Step {
     Lose(&'static str),
 }
 
-/// A step, why it fails, and a path with the bytes of the file that stands there on the disk after it.
+/// A step, the kind of fault with which it fails, and a path with the bytes of its file on the
+/// disk afterwards (`None`: no such file).
 type Row = (Step, Option<IoKind>, &'static str, Option<&'static [u8]>);
 
-/// The rows of each of a folder's openings, one after the other.
+/// The rows of each opening of one folder, in order.
 pub(crate) struct Case {
     name: &'static str,
     openings: [&'static [Row]; 3],
@@ -108,7 +109,7 @@ const NAMES_WRITTEN: &[Row] = &[
     (Step::Allocate(2, 4), None, E, Some(b"kept\0\0")),
 ];
 
-/// What stands before a call that the system refuses.
+/// Makes the files that exist before a call that the system refuses.
 const BEFORE: &[Row] = &[
     (Step::Create(A), None, A, Some(b"")),
     (Step::Writer(A), None, A, Some(b"")),
@@ -116,13 +117,13 @@ const BEFORE: &[Row] = &[
     (Step::Create(Z), None, Z, Some(b"")),
 ];
 
-/// Where the file is left, an opening goes on from it.
+/// If the file was left alone, a new opening finds it and can create files.
 const KEPT: &[Row] = &[
     (Step::Writer(A), None, A, Some(b"kept")),
     (Step::Create(LATER), None, LATER, Some(b"")),
 ];
 
-/// Where another program deleted the file, an opening goes on without it.
+/// If another program deleted the file, a new opening works without it.
 const LOST: &[Row] = &[
     (Step::Writer(A), Some(IoKind::NotFound), A, None),
     (Step::Create(LATER), None, LATER, Some(b"")),
@@ -167,7 +168,7 @@ const TRUNCATE: &[Row] = &[
     (Step::Create(LATER), Some(IoKind::Other), LATER, None),
 ];
 
-/// Room ahead is a wish: where it is refused, all goes on.
+/// `allocate` is a hint: if it is refused, later calls still work.
 const ALLOCATE: &[Row] = &[
     (Step::Writer(A), None, A, Some(b"kept")),
     (Step::Delete(Z), None, Z, None),
@@ -184,7 +185,7 @@ const SYNC: &[Row] = &[
     (Step::Create(LATER), Some(IoKind::Other), LATER, None),
 ];
 
-/// A file that can't be opened leaves what stands as it is.
+/// If a file can't be opened, later calls still work.
 const OPEN: &[Row] = &[
     (Step::Lose(A), None, A, None),
     (Step::Writer(A), Some(IoKind::NotFound), A, None),
@@ -281,13 +282,13 @@ fn take<F: FileSystem>(
     }
 }
 
-/// Takes a step that needs no writer of an earlier one.
+/// Carries out a step that needs no writer from an earlier step.
 pub(crate) fn take_alone<F: FileSystem>(files: &mut F, step: &Step) -> Result<(), FsFault> {
     let mut writer = None;
     take(files, &mut writer, step)
 }
 
-/// Whether a call is answered so: not at all, or with this kind of fault.
+/// Whether a call returned `Ok`, or failed with this kind of fault.
 pub(crate) fn is_answered(done: Result<(), FsFault>, wanted: Option<IoKind>) -> bool {
     match done {
         Ok(()) => wanted.is_none(),
@@ -296,7 +297,7 @@ pub(crate) fn is_answered(done: Result<(), FsFault>, wanted: Option<IoKind>) -> 
     }
 }
 
-// Whether the file at the path has these bytes on the disk, or stands there no more.
+// Whether the file at the path has these bytes on the disk, or doesn't exist if none are given.
 fn stands(rt: &HostRuntime, folder: &str, path: &str, wanted: Option<&'static [u8]>) -> bool {
     match wanted {
         Some(bytes) => has_bytes(rt, folder, path, bytes),
@@ -304,7 +305,7 @@ fn stands(rt: &HostRuntime, folder: &str, path: &str, wanted: Option<&'static [u
     }
 }
 
-// Takes the step; another program may have lost a file before.
+// Whether the step ends as its row says. A step `Lose` first deletes the file.
 fn comes_to<F: FileSystem>(
     rt: &HostRuntime,
     files: &mut F,
@@ -338,7 +339,7 @@ fn is_opened<F: Disk + FileSystem + Drop>(rt: HostRuntime, folder: &str, rows: &
     }
 }
 
-/// Whether each opening's rows come to what they say.
+/// Whether each row of each opening ends as it says.
 pub(crate) fn are_carried_out<F: Disk + FileSystem + Drop>(
     rt: HostRuntime,
     folder: &str,

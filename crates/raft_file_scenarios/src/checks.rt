@@ -1,4 +1,4 @@
-//! What a check tells of a file, and what an opening would do with a queue's files.
+//! What a check reports of a file, and what an opening would do with the files of a queue.
 
 use crate::in_memory::{Tried, holds_in_memory};
 use crate::told::assert_case;
@@ -9,8 +9,8 @@ use raft_records::Fault;
 use raft_rows::{FileParts, HEADER, NOTHING, PUT, PUTS, ZEROS, fill};
 use std::alloc::Global;
 
-/// How many records are read, where the reading ends, how long the file is, whether the rest is zeros, and the code of
-/// what stops the reading.
+/// The number of whole records, the place where reading ends, the file's length, whether the rest
+/// is zeros, and the code of the fault that ends the reading.
 struct Found(usize, usize, usize, bool, Option<u8>);
 
 pub(crate) struct Case {
@@ -27,7 +27,7 @@ static CASES: [Case; 7] = [
         parts: &[("a/0000000000000001.raftlog", &[HEADER])],
         found: Found(0, 61, 61, true, None),
     },
-    // Room ahead, and damage in it.
+    // Room allocated ahead, and damage in it.
     Case {
         parts: &[("a/0000000000000001.raftlog", &[HEADER, PUT, ZEROS])],
         found: Found(1, 89, 189, true, Some(2)),
@@ -36,7 +36,7 @@ static CASES: [Case; 7] = [
         parts: &[("a/0000000000000001.raftlog", &[HEADER, PUT, ZEROS, b"x"])],
         found: Found(1, 89, 190, false, Some(2)),
     },
-    // What stands behind a broken record isn't read.
+    // Records after a broken one aren't read.
     Case {
         parts: &[("a/0000000000000001.raftlog", &[HEADER, PUT, b"torn", PUT])],
         found: Found(1, 89, 121, false, Some(2)),
@@ -76,7 +76,7 @@ pub(crate) fn files_in<F: FileSystem>(
     }
 }
 
-// Checks of all log files in the folder a.
+// Checks all log files in the folder `a`.
 fn checks_of<F: FileSystem>(alloc: Global, fs: &mut F) -> Result<Vec<FileCheck>, Fault> {
     let mut checks = Vec::new(alloc);
     for file in &files_in(alloc, fs, "a")? {
@@ -110,7 +110,7 @@ fn a_check_tells_what_can_be_read(rt: HostRuntime) {
     }
 }
 
-/// Files of a queue with a missing number; of those behind it two have a broken end.
+/// Files of a queue with a missing number. Two of those after it have a broken end.
 static QUEUE: [FileParts; 4] = [
     ("a/0000000000000001.raftlog", &[HEADER]),
     ("a/0000000000000003.raftlog", &[HEADER, PUT, b"torn"]),
@@ -124,7 +124,7 @@ const KEEP: Planned = Planned::Keep;
 
 const CUT: Planned = Planned::Cut(89);
 
-/// What an opening in a mode does with the files behind the missing number.
+/// A mode, and what an opening in it does with the files after the missing number.
 pub(crate) type Plan = (RecoveryMode, &'static [Planned]);
 
 static PLANS: [Plan; 3] = [
@@ -133,7 +133,7 @@ static PLANS: [Plan; 3] = [
     (RecoveryMode::TolerateAnyCorruption, &[CUT, KEEP, CUT]),
 ];
 
-/// Whether the opening is planned so.
+/// Whether an opening in this mode is planned so.
 pub(crate) fn is_planned<F: FileSystem>(fs: &mut F, alloc: Global, plan: &Plan) -> bool {
     if fill(fs, alloc, &QUEUE).is_err() {
         return false;
@@ -144,7 +144,7 @@ pub(crate) fn is_planned<F: FileSystem>(fs: &mut F, alloc: Global, plan: &Plan) 
     }
 }
 
-// Whether one file is passed over, and this is planned for the others.
+// Whether one file is passed over, and the rest is planned so.
 fn is_plan(alloc: Global, checks: &[FileCheck], plan: &Plan) -> bool {
     let (mode, planned) = plan;
     let passed = passed_over(checks);

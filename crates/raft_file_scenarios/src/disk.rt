@@ -1,32 +1,33 @@
-//! Files in a folder of the operating system, for what is written over any files.
+//! The trait of a folder of the operating system, so that tests are written over any files.
 
 use raft_disk::{DiskCounts, DiskFileSystem, OpenFault};
 
-/// What an opening reads.
+/// The files that an opening reads.
 #[derive(Clone, Copy)]
 pub(crate) enum Reading {
     All,
-    /// It fails if files are missing or too many.
+    /// All files. It fails if some are missing, or if there are too many.
     Whole,
-    /// The folder and this second one.
+    /// Those of the folder and of this second one.
     Two(&'static str),
-    /// The same, without reserved files.
+    /// Those of both, without reserved files.
     NoReserved(&'static str),
 }
 
-/// A folder of the operating system. That it is a file system is a bound of its own at each use.
+/// A folder of the operating system. `FileSystem` isn't a supertrait: each use names it as a
+/// second bound.
 pub(crate) trait Disk {
     fn open_folder(rt: HostRuntime, folder: &str, reading: Reading) -> Result<Self, OpenFault>;
 
-    /// Accepts the files that are there.
+    /// Makes the files that are in the folder the expected ones.
     fn forget(rt: HostRuntime, folder: &str) -> Result<(), OpenFault>;
 
-    /// Deletes the reserved files that the opening passed over.
+    /// Deletes the reserved files that the opening didn't read.
     fn delete_unread(&self) -> Result<(), OpenFault>;
 
     fn call_counts(&self) -> DiskCounts;
 
-    /// What the system said of the last call that it refused.
+    /// The text of the last call that the system refused.
     fn last_refusal(&self) -> Option<&str>;
 }
 

@@ -1,4 +1,4 @@
-//! What dumps of folders and files give.
+//! What dumps of folders and files return.
 
 use crate::checks::files_in;
 use crate::in_memory::{Tried, holds_in_memory};
@@ -13,18 +13,19 @@ const APPEND: LogQueue = LogQueue::Append;
 
 const REWRITE: LogQueue = LogQueue::Rewrite;
 
-/// The queue, the number and the place where the record is looked for, and the group of an item or a fault's code.
+/// The queue, the file's number, the offset of the record, and the item's group or a fault's code.
 struct Answer(LogQueue, u64, usize, Result<u64, u8>);
 
 pub(crate) struct Case {
     files: &'static [FileParts],
-    /// One path is dumped as what stands there; several are folders of which all files are read together.
+    /// One path is a file or a folder. Several are folders, and all of their files are read
+    /// together.
     paths: &'static [&'static str],
     answers: &'static [Answer],
 }
 
 static CASES: [Case; 8] = [
-    // An empty file is one refusal, a header alone gives nothing.
+    // A dump fails at an empty file, and returns nothing for a file that has only a header.
     Case {
         files: &[
             ("a/0000000000000001.raftlog", &[]),
@@ -33,7 +34,8 @@ static CASES: [Case; 8] = [
         paths: &["a"],
         answers: &[Answer(APPEND, 1, 0, Err(2))],
     },
-    // The Rewrite queue's files come first, each queue's by number, and other files not at all.
+    // The Rewrite queue's files come first, and each queue's in order of numbers. Other files are
+    // ignored.
     Case {
         files: &[
             ("a/0000000000000002.raftlog", &[HEADER, PUT]),
@@ -51,7 +53,7 @@ static CASES: [Case; 8] = [
             Answer(APPEND, 2, 61, Ok(1)),
         ],
     },
-    // The files of two folders, also where a number stands in both.
+    // The files of two folders, also if both have a file of one number.
     Case {
         files: &[
             ("a/0000000000000001.raftlog", &[HEADER, PUT]),
@@ -66,13 +68,13 @@ static CASES: [Case; 8] = [
             Answer(APPEND, 1, 61, Ok(3)),
         ],
     },
-    // Zeros ahead of a writer that was killed are one broken record behind the last one.
+    // Zeros after the last record, which a killed writer leaves, are one broken record.
     Case {
         files: &[("a/0000000000000001.raftlog", &[HEADER, PUT, ZEROS])],
         paths: &["a/0000000000000001.raftlog"],
         answers: &[Answer(APPEND, 1, 61, Ok(1)), Answer(APPEND, 1, 89, Err(2))],
     },
-    // A dump goes on behind a broken file.
+    // A dump continues after a broken file.
     Case {
         files: &[
             ("a/0000000000000001.raftlog", &[HEADER, PUT, b"torn"]),
@@ -89,13 +91,13 @@ static CASES: [Case; 8] = [
             Answer(APPEND, 4, 61, Ok(3)),
         ],
     },
-    // An empty folder gives nothing.
+    // An empty folder has no items.
     Case {
         files: &[],
         paths: &["b"],
         answers: &[],
     },
-    // A file without records gives nothing, nor does one whose only record is empty.
+    // A file without records has no items, nor has one with only an empty record.
     Case {
         files: &[("b/0000000000000007.rewrite", &[HEADER, NOTHING])],
         paths: &["b/0000000000000007.rewrite"],
@@ -108,7 +110,7 @@ static CASES: [Case; 8] = [
     },
 ];
 
-// The log files in these folders, folder by folder.
+// The log files in these folders, one folder after the other.
 fn files_of<F: FileSystem>(
     alloc: Global,
     fs: &mut F,
@@ -144,7 +146,7 @@ fn is_answer(given: Result<LogItem, Fault>, place: Option<RecordPlace>, answer: 
     id.queue == answer.0 && id.seq == answer.1 && offset == answer.2 && told == answer.3
 }
 
-// Whether these answers come, and then no more, also when it is asked for again.
+// Whether exactly these items are returned, and then `None`, also at a second call.
 fn gives<F: FileSystem>(
     fs: &mut F,
     items: &mut LogItemReader<F>,
@@ -161,7 +163,7 @@ fn gives<F: FileSystem>(
     items.next(fs).is_none() && items.next(fs).is_none()
 }
 
-/// Whether a dump gives what the case says.
+/// Whether a dump returns what the case says.
 pub(crate) fn is_dumped<F: FileSystem>(fs: &mut F, alloc: Global, case: &Case) -> bool {
     if fill(fs, alloc, case.files).is_err() {
         return false;
@@ -183,7 +185,7 @@ fn files_give_their_items_and_then_an_error(rt: HostRuntime) {
     }
 }
 
-/// Paths of which nothing is dumped, beside two folders and a file `a/LOCK`.
+/// Paths at which no dump can begin, in a place with two folders and a file `a/LOCK`.
 static REFUSED: [&str; 4] = [
     "c",
     "a/LOCK",

@@ -1,4 +1,5 @@
-//! What stands in a log's folder and is none of its files: an opening passes it over, and no call reaches it.
+//! Things in a log's folder that are no log files: an opening ignores them, and no call reaches
+//! them.
 
 use crate::calls::{Step, is_answered, take_alone};
 use crate::disk::{Disk, Reading};
@@ -12,20 +13,20 @@ use std::os::unix::fs::symlink;
 
 const LOG: &str = "0000000000000001.raftlog";
 
-/// What each of the files has.
+/// The bytes of each of the files.
 const KEPT: &[u8] = b"kept";
 
 const SPILLED: &str = "s/t/0000000000000002.raftlog";
 
-/// A log's file in a folder that no settings name.
+/// A log file in a folder that the settings don't name.
 const OTHER: &str = "u/0000000000000003.raftlog";
 
-/// Where none stands, in a folder that wasn't read.
+/// A path without a file, in a folder that wasn't read.
 const UNREAD: &str = "u/0000000000000005.raftlog";
 
 const LATER: &str = "0000000000000004.raftlog";
 
-/// Names, and whether a file of a log can have them.
+/// Names, and whether a log's file can have them.
 const NAMES: [(&str, bool); 12] = [
     ("0000000000000001.raftlog", true),
     ("9999999999999999.rewrite", true),
@@ -71,7 +72,8 @@ fn makes_files(rt: &HostRuntime, folder: &str) -> bool {
     true
 }
 
-// A log in two folders, a third folder, and foreign things: files, links, and two names of one file.
+// Makes a log in two folders, a third folder, and foreign things: files, links, and two names of
+// one file.
 fn makes(rt: &HostRuntime, folder: &str) -> bool {
     makes_folder(rt, folder, "s")
         && makes_folder(rt, folder, "s/t")
@@ -83,7 +85,8 @@ fn makes(rt: &HostRuntime, folder: &str) -> bool {
         && links(rt, folder, "u", "links")
 }
 
-/// Paths, and whether a file is known there after an opening of all folders, and of the second one alone.
+/// Paths, and whether a file is known there after an opening of all folders, and of the second one
+/// only.
 const KNOWN: [(&str, bool, bool); 6] = [
     (LOG, true, true),
     (SPILLED, true, true),
@@ -103,18 +106,18 @@ fn knows<F: FileSystem>(files: &F, all: bool) -> bool {
     true
 }
 
-/// A call, and why it fails.
+/// A call, and the kind of fault with which it fails.
 enum Reach {
     Create(&'static str, Option<IoKind>),
     MakeDir(&'static str, Option<IoKind>),
     Delete(&'static str, Option<IoKind>),
-    /// Of the log's file.
+    /// Renames the log's file.
     Rename(&'static str, Option<IoKind>),
 }
 
 const OTHER_KIND: Option<IoKind> = Some(IoKind::Other);
 
-/// What was passed over is out of reach, and changes go on.
+/// No call reaches an ignored thing, and the log can still be changed.
 const REACHES: [Reach; 10] = [
     Reach::Create("notes", OTHER_KIND),
     Reach::Create("astray", OTHER_KIND),
@@ -172,7 +175,7 @@ fn are_kept(rt: &HostRuntime, folder: &str) -> bool {
     stands_at(rt, folder, "nothing") == Some(false)
 }
 
-/// Whether openings pass over foreign things, and leave them as they are.
+/// Whether openings ignore foreign things and leave them unchanged.
 pub(crate) fn are_passed_over<F: Disk + FileSystem + Drop>(rt: HostRuntime, folder: &str) -> bool {
     makes(&rt, folder)
         && are_all_known::<F>(rt, folder)
@@ -189,7 +192,7 @@ fn foreign_things_are_passed_over(rt: HostRuntime) {
     );
 }
 
-/// Paths of a second folder, and the text for which the opening is refused, none where it isn't.
+/// Paths of a second folder, and the text with which the opening fails; empty if it succeeds.
 const SECONDS: [(&str, &str); 7] = [
     ("", ""),
     ("..", "no path of a folder below the log's"),
@@ -200,7 +203,7 @@ const SECONDS: [(&str, &str); 7] = [
     ("later/on", ""),
 ];
 
-// Whether the opening says the text at its end, or nothing.
+// Whether the opening's text ends so, or the opening succeeds if the text is empty.
 fn is_below<F: Disk + Drop>(
     rt: HostRuntime,
     folder: &str,
@@ -214,7 +217,7 @@ fn is_below<F: Disk + Drop>(
     }
 }
 
-/// Whether openings with second folders come to what is said of each.
+/// Whether openings with second folders end as `SECONDS` says.
 pub(crate) fn are_below<F: Disk + Drop>(rt: HostRuntime, folder: &str) -> bool {
     if !makes(&rt, folder) {
         return false;

@@ -1,4 +1,4 @@
-//! What is tried in a folder of the operating system.
+//! Tests in a folder of the operating system.
 
 use crate::disk::Disk;
 use crate::{calls, foreign, lost_files, openings, refusals, reserved, views};
@@ -7,7 +7,7 @@ use raft_env::FileSystem;
 use raft_rows::temp_folder;
 use std::fs;
 
-/// What is tried in a folder.
+/// A test in a folder.
 #[derive(Clone, Copy)]
 pub(crate) enum Tried {
     Calls(&'static calls::Case),
@@ -41,12 +41,13 @@ fn holds<F: Disk + FileSystem + Drop>(rt: HostRuntime, folder: &str, tried: &Tri
     }
 }
 
-// A function that names files on the disk is dear to prove: beside their own calls no other does.
+// A function that names files on the disk takes long to prove, so it is the only one, except those
+// that call the disk themselves.
 fn holds_on_disk(rt: HostRuntime, folder: &str, tried: &Tried) -> bool {
     holds::<DiskFileSystem>(rt, folder, tried)
 }
 
-/// Whether it comes to what is wanted in a folder that is made for it and removed after it.
+/// Whether the test passes in a new folder, which is removed afterwards.
 pub(crate) fn holds_in_folder(rt: HostRuntime, name: &str, tried: &Tried) -> bool {
     let Ok(folder) = temp_folder(&rt, name) else {
         return false;

@@ -1,4 +1,4 @@
-//! What is tried over files in memory.
+//! Tests over files in memory.
 
 use crate::failing::Failing;
 use crate::{
@@ -8,7 +8,7 @@ use raft_env::IoKind;
 use raft_memory::MemoryFileSystem;
 use std::alloc::Global;
 
-/// What is tried over files that are fresh.
+/// A test over new files.
 #[derive(Clone, Copy)]
 pub(crate) enum Tried {
     Script(&'static memory_files::Script),
@@ -55,8 +55,8 @@ fn holds<F: Failing>(alloc: Global, tried: &Tried) -> bool {
     holds_over(&mut fs, alloc, tried)
 }
 
-/// Whether it comes to what is wanted. A function that names files in memory is dear to prove, so
-/// one does for all of these.
+/// Whether the test passes. Only this function names files in memory, since such a function takes
+/// long to prove.
 pub(crate) fn holds_in_memory(alloc: Global, tried: &Tried) -> bool {
     holds::<MemoryFileSystem>(alloc, tried)
 }

@@ -1,5 +1,5 @@
-//! Tests of log files, files in memory and in a folder of the operating system, settings, and dumps and checks of log
-//! files. Each is one loop over a table of cases.
+//! Tests of log files, files in memory and in a folder of the operating system, settings, and
+//! dumps and checks of log files. Each is one loop over a table of cases.
 #![tactic(auto)]
 
 #[cfg(test)]

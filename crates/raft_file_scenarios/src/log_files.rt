@@ -13,7 +13,7 @@ const V2: LogFileFormat = LogFileFormat {
     alignment: 0,
 };
 
-/// A call, and the place of the file's end for the writer and for the files after it.
+/// A call, and where the file then ends for its writer, and for a writer opened after it.
 enum Step {
     Write(&'static [u8], usize),
     Sync,
@@ -46,7 +46,7 @@ fn take_step<F: FileSystem>(
     }
 }
 
-// The place of the first step after which the file ends elsewhere.
+// The index of the first step after which the file ends elsewhere.
 fn first_wrong<F: FileSystem>(
     fs: &mut F,
     alloc: Global,
@@ -97,7 +97,8 @@ fn is_read<F: FileSystem>(fs: &mut F, alloc: Global, handle: &F::Handle) -> bool
     }
 }
 
-// Where the file ends for a writer that finds it, and for one that writes a header of version 1 over it.
+// Where the file ends for a writer that finds it, and for one that writes a header of version 1
+// over it.
 fn ends<F: FileSystem>(
     fs: &mut F,
     alloc: Global,
@@ -161,7 +162,7 @@ fn is_replayed<F: FileSystem>(fs: &mut F, alloc: Global) -> bool {
     is_read && ends_at(fs, &mut records, 0)
 }
 
-/// Whether what is written is read back.
+/// Whether the records that were written are read back.
 pub(crate) fn is_read_back<F: FileSystem>(fs: &mut F, alloc: Global) -> bool {
     match fs.create("log") {
         Ok(handle) => {

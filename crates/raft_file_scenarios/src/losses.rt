@@ -1,4 +1,4 @@
-//! What is told before an opening of what it loses.
+//! What `Losses` reports before an opening: what the opening would cut off and pass over.
 
 use crate::in_memory::{Tried, holds_in_memory};
 use crate::told::{assert_case, assert_row};
@@ -9,11 +9,11 @@ use raft_records::{Fault, Fresh, LogQueue};
 use raft_rows::{FileParts, HEADER, PUT, PUTS, ZEROS, fill};
 use std::alloc::Global;
 
-/// A path, where the bytes begin that are cut off and how many there are, and why an unsynced tail
-/// doesn't explain them.
+/// A path, the offset and the number of the bytes that are cut off, and why they can't be only an
+/// unsynced tail.
 struct WantedCut(&'static str, usize, usize, Option<Unexplained>);
 
-/// Files, a mode, whether the opening fails, what it cuts off, and what it passes over.
+/// Files, a mode, whether the opening fails, what it cuts off, and which files it passes over.
 pub(crate) struct Case(
     &'static [FileParts],
     RecoveryMode,
@@ -34,7 +34,7 @@ const SECOND: &str = "b/0000000000000002.raftlog";
 
 const TORN: &[u8] = b"torn";
 
-/// Room made ahead in the last file, and a last file without a byte.
+/// The last Append file has room allocated ahead, and the last Rewrite file is empty.
 const WHOLE: &[FileParts] = &[
     (FIRST, &[HEADER, PUT, PUTS]),
     (SECOND, &[HEADER, PUT, ZEROS]),
@@ -51,7 +51,7 @@ const TORN_END: &[FileParts] = &[
 
 const TORN_FRONT: &[FileParts] = &[(FIRST, &[HEADER, PUT, TORN]), (SECOND, &[HEADER, PUT])];
 
-/// A whole record behind torn bytes.
+/// A whole record after torn bytes.
 const TORN_MIDDLE: &[FileParts] = &[(FIRST, &[HEADER, PUT, TORN, PUT])];
 
 /// The file of number 2 is missing.
@@ -60,19 +60,19 @@ const GAP: &[FileParts] = &[
     ("a/0000000000000003.raftlog", &[HEADER, PUT]),
 ];
 
-/// .. and that of number 1 holds nothing.
+/// The same, and file 1 holds nothing.
 const EMPTY_GAP: &[FileParts] = &[
     (FIRST, &[HEADER, ZEROS]),
     ("a/0000000000000003.raftlog", &[HEADER, PUT]),
 ];
 
-/// The number 1 stands in both folders.
+/// Both folders have a file of number 1.
 const DOUBLED: &[FileParts] = &[
     (FIRST, &[HEADER, PUT]),
     ("b/0000000000000001.raftlog", &[HEADER, PUT, TORN]),
 ];
 
-/// Names that are no log files', or not as these are built.
+/// Names that are no log files, or aren't spelled as a log spells them.
 const STRANGE: &[FileParts] = &[
     (FIRST, &[HEADER, PUT]),
     ("a/3.raftlog", &[HEADER, PUT]),
@@ -112,10 +112,10 @@ static CASES: [Case; 13] = [
     Case(STRANGE, ABSOLUTE, false, &[], &[]),
 ];
 
-/// A last file whose header found no space.
+/// A last file without a header, since there was no space for it.
 const NO_HEADER: &[FileParts] = &[(FIRST, &[HEADER, PUT]), (SECOND, &[ZEROS])];
 
-/// Files, a queue, and its last file where that holds nothing and another one stands before it.
+/// Files, a queue, and its last file if that holds nothing and an earlier file exists.
 pub(crate) struct EmptyLast(&'static [FileParts], LogQueue, Option<&'static str>);
 
 static EMPTY_LASTS: [EmptyLast; 5] = [
@@ -167,7 +167,7 @@ fn found<F: FileSystem>(fs: &mut F, alloc: Global, mode: RecoveryMode) -> Result
     Losses::find(alloc, &settings(alloc, mode)?, fs)
 }
 
-/// Whether what is told is what the case says.
+/// Whether the report is the case's.
 pub(crate) fn is_told<F: FileSystem>(fs: &mut F, alloc: Global, case: &Case) -> bool {
     let Case(files, mode, fails, cuts, passed) = case;
     if fill(fs, alloc, files).is_err() {
@@ -202,7 +202,7 @@ fn is_empty_last(found: &QueueFiles, wanted: Option<&'static str>) -> bool {
     }
 }
 
-/// Whether the last file that holds nothing is told, or none.
+/// Whether the last file is reported if it holds nothing, and otherwise none.
 pub(crate) fn is_last<F: FileSystem>(fs: &mut F, alloc: Global, row: &EmptyLast) -> bool {
     let EmptyLast(files, queue, wanted) = row;
     if fill(fs, alloc, files).is_err() {
@@ -225,7 +225,7 @@ fn a_last_file_that_holds_nothing_is_told(rt: HostRuntime) {
     }
 }
 
-/// Whether nothing is told if no folder is there.
+/// Whether nothing is reported if no folder exists.
 pub(crate) fn loses_nothing<F: FileSystem>(fs: &mut F, alloc: Global) -> bool {
     match found(fs, alloc, TAIL) {
         Ok(losses) => !losses.fails && losses.cuts.is_empty() && losses.passed.is_empty(),

@@ -1,4 +1,4 @@
-//! Files in memory: calls and looks at them, refusals and crashes, one after the other.
+//! Files in memory: calls, looks, refusals and crashes in sequence.
 
 use crate::failing::Failing;
 use crate::in_memory::{Tried, holds_in_memory};
@@ -11,7 +11,7 @@ use std::alloc::{AllocError, Global};
 enum Call {
     MakeDir(&'static str),
     Create(&'static str),
-    /// Opens the file so and makes a writer.
+    /// Opens the file with this permission and makes a writer.
     Writer(&'static str, Permission),
     Write(&'static str, usize, &'static [u8]),
     Truncate(&'static str, usize),
@@ -19,15 +19,16 @@ enum Call {
     Sync(&'static str),
     Delete(&'static str),
     Rename(&'static str, &'static str),
-    /// Reuses the file under the other path and makes a writer.
+    /// Renames the second path's file to the first path for reuse, and makes a writer.
     Reuse(&'static str, &'static str),
     Size(&'static str, usize),
-    /// Reads from the start into a buffer full of `?`: so many bytes, and the buffer after it.
+    /// Reads from offset 0 into a buffer full of `?`: the number of bytes, and the buffer
+    /// afterwards.
     Read(&'static str, usize, &'static [u8]),
     List(&'static str, &'static [&'static str]),
 }
 
-/// What a crash is to leave of the file with the first path.
+/// What a crash leaves of the file with the first path.
 enum Left {
     Unsaid,
     All,
@@ -41,20 +42,20 @@ enum Step {
     Refuses(Call, IoKind),
     IsFolder(&'static str, bool),
     IsFile(&'static str, bool),
-    /// So many calls failed.
+    /// So many calls have failed.
     Refused(u64),
-    /// The nth call of the sort is to fail.
+    /// The nth call of this sort will fail.
     Arm(FsCall, u64),
-    /// No call is the 0th.
+    /// Asks that the 0th call of a sort fails. No call does.
     ArmNone(FsCall),
     Stop(u64),
-    /// A crash leaves so many bytes of `a`, and these in a buffer full of `?`.
+    /// A crash can leave so many bytes of `a`, read into a buffer full of `?`.
     Leaves(Left, usize, &'static [u8]),
-    /// A crash can't leave that.
+    /// A crash can't leave this.
     LeavesNot(Left),
 }
 
-/// Steps from no files on.
+/// Steps that begin without files.
 pub(crate) struct Script {
     name: &'static str,
     steps: &'static [Step],
@@ -210,8 +211,8 @@ static WRITTEN_OVER: Script = Script {
     ],
 };
 
-/// Each script is a table of its own, since a function is checked with all of each table that it names, and that grows
-/// with the square of the table.
+/// Each script is a table of its own: a function is checked with the whole of each table that it
+/// names, and the time grows with the square of the table's length.
 fn scripts() -> [&'static Script; 6] {
     [
         &WRITTEN,
@@ -232,7 +233,7 @@ fn writer_of<F: FileSystem>(
     fs.new_writer(&handle)
 }
 
-// A failed read is counted by its reader, and by the files when the reader is given back.
+// A failed read is counted by its reader, and by the files after the reader is given back.
 fn reads<F: FileSystem>(
     alloc: Global,
     fs: &mut F,
@@ -302,7 +303,7 @@ fn change<F: FileSystem>(fs: &mut F, call: &Call) -> Result<(), FsFault> {
     }
 }
 
-// Whether the call is answered as it says.
+// Whether the call has the result that it names.
 fn is_answered<F: FileSystem>(alloc: Global, fs: &mut F, call: &Call) -> Result<bool, FsFault> {
     match call {
         Call::Size(path, size) => {
@@ -347,7 +348,7 @@ fn leaves_not<F: Failing>(alloc: Global, fs: &F, left: &Left) -> bool {
     }
 }
 
-// Whether the step comes to what the script says.
+// Whether the step ends as the script says.
 fn holds<F: Failing>(alloc: Global, fs: &mut F, step: &Step) -> bool {
     match step {
         Step::Does(wanted) => is_answered(alloc, fs, wanted) == Ok(true),
@@ -366,7 +367,7 @@ fn holds<F: Failing>(alloc: Global, fs: &mut F, step: &Step) -> bool {
     }
 }
 
-/// Whether each step comes to what the script says.
+/// Whether each step ends as the script says.
 pub(crate) fn is_played<F: Failing>(fs: &mut F, alloc: Global, script: &Script) -> bool {
     for step in script.steps {
         if !holds(alloc, fs, step) {

@@ -8,7 +8,8 @@ use raft_records::{Fault, FileId, LogQueue, Version};
 use raft_rows::Row;
 use std::alloc::Global;
 
-/// A name, the log file that it is parsed to, and the number of the reserved file.
+/// A name, the queue and number of the log file that it means, and the number of the reserved file
+/// that it means.
 struct Parsed(&'static str, Option<(LogQueue, u64)>, Option<u64>);
 
 static PARSED: [Parsed; 9] = [
@@ -113,8 +114,8 @@ fn names_are_built(rt: HostRuntime) {
 
 const MAGIC: &[u8] = b"RAFT-LOG-FILE-HEADER-9986AB3E47F320B394C8E84916EB0ED5";
 
-/// A version and an alignment, how long a header of the version is, and what stands after its fixed bytes; or none, and
-/// writing it is refused as an invalid argument.
+/// A version and an alignment, the length of a header of this version, and the bytes after its
+/// fixed ones; none if such a header is refused as an invalid argument.
 struct Header(Version, u64, usize, Option<&'static [u8]>);
 
 static HEADERS: [Header; 3] = [
@@ -128,13 +129,13 @@ static HEADERS: [Header; 3] = [
     Header(Version::V1, 4096, 61, None),
 ];
 
-// Whether these bytes are all read as the format.
+// Whether all of these bytes are read as this format.
 fn is_read(bytes: &[u8], format: LogFileFormat) -> Result<bool, Fault> {
     let mut rest = bytes;
     Ok(LogFileFormat::decode(&mut rest)? == format && rest.is_empty())
 }
 
-// Whether the header is these bytes, which are read as the format.
+// Whether the format's header ends in these bytes and is read back.
 fn has_header(alloc: Global, format: LogFileFormat, numbers: &[u8]) -> Result<bool, Fault> {
     let mut bytes = Vec::new(alloc);
     format.encode(&mut bytes)?;
@@ -165,7 +166,7 @@ fn headers_are_written_and_read(rt: HostRuntime) {
     assert_rows(&rt, rt.alloc(), &mut (), &HEADERS);
 }
 
-/// Bytes that begin with no header.
+/// Bytes that don't begin with a header.
 struct NoHeader(&'static [u8]);
 
 static NO_HEADERS: [NoHeader; 3] = [
@@ -181,7 +182,7 @@ static NO_HEADERS: [NoHeader; 3] = [
 impl Row for NoHeader {
     type State = ();
 
-    // They are refused as corrupt, and nothing is read of them.
+    // Reading a header from them fails as corrupt and consumes nothing.
     fn holds(&self, _: Global, _: &mut ()) -> Result<bool, Fault> {
         let mut rest = self.0;
         match LogFileFormat::decode(&mut rest) {

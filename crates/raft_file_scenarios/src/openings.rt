@@ -1,4 +1,4 @@
-//! Openings that fail: what they say, and that what stood there stands as it did.
+//! Openings that fail: the text of each fault, and that nothing in the folder has changed.
 
 use crate::disk::{Disk, Reading};
 use crate::in_folder::{Tried, holds_in_folder};
@@ -8,17 +8,17 @@ use raft_disk::OpenFault;
 use std::fs;
 use std::os::unix::fs::symlink;
 
-/// What stands in the test's folder, by its name.
+/// What the test makes in its folder, by its name.
 enum Made {
     Folder(&'static str),
     File(&'static str),
     /// A link to a file.
     Link(&'static str, &'static str),
-    /// A second name of a file.
+    /// A second name (hard link) of a file.
     Name(&'static str, &'static str),
 }
 
-/// What is opened, and the fault's path and text. The paths go on from the test's folder.
+/// What is opened, and the fault's path and text. Paths are relative to the test's folder.
 pub(crate) struct Case {
     made: &'static [Made],
     opened: &'static str,
@@ -79,7 +79,7 @@ static CASES: [Case; 7] = [
         named: "/g/0000000000000001.raftlog",
         text: NOT_PLAIN,
     },
-    // The mark of a fork that hasn't ended.
+    // The mark of a fork that hasn't finished.
     Case {
         made: &[Made::File(LOG), Made::File("FORKING")],
         opened: "",
@@ -120,13 +120,13 @@ fn makes_each(rt: &HostRuntime, folder: &str, made: &[Made]) -> bool {
     true
 }
 
-// What an opening says, which is nothing if it doesn't fail.
+// The text of the opening's fault, empty if it succeeds.
 fn fault_of<F: Disk + Drop>(rt: HostRuntime, place: &str) -> Option<String> {
     let opened: Result<F, OpenFault> = F::open_folder(rt, place, Reading::All);
     text_of(&rt, opened)
 }
 
-// Whether the opening of a place below the folder fails with this text of a place below it.
+// Whether opening a place in the folder fails with this path and text.
 fn says<F: Disk + Drop>(rt: HostRuntime, folder: &str, case: &Case) -> bool {
     let opened = format!(in rt.alloc(); "{folder}{}", case.opened);
     let wanted = format!(in rt.alloc(); "{folder}{}: {}", case.named, case.text);
@@ -139,12 +139,12 @@ fn says<F: Disk + Drop>(rt: HostRuntime, folder: &str, case: &Case) -> bool {
     }
 }
 
-/// Whether the opening fails with this text, and leaves the folder as it was.
+/// Whether the opening fails with this text and leaves the folder unchanged.
 pub(crate) fn fails_so<F: Disk + Drop>(rt: HostRuntime, folder: &str, case: &Case) -> bool {
     if !makes_each(&rt, folder, case.made) {
         return false;
     }
-    // The opening may make the lock's file.
+    // The opening may create the lock's file.
     let Some(before) = standing(&rt, folder, "LOCK") else {
         return false;
     };
@@ -159,7 +159,7 @@ fn openings_fail_without_a_change(rt: HostRuntime) {
     }
 }
 
-// What a second opening says.
+// The text of a second opening's fault.
 fn opened_again<F: Disk + Drop>(rt: HostRuntime, folder: &str) -> Option<String> {
     let first: Result<F, OpenFault> = F::open_folder(rt, folder, Reading::All);
     let second = fault_of::<F>(rt, folder);
@@ -188,7 +188,7 @@ fn a_folder_is_open_once(rt: HostRuntime) {
     assert_row(&rt, holds_in_folder(rt, "once", &Tried::OpenOnce), "once");
 }
 
-// Whether a read-only folder can be written to, as by root.
+// Whether this user can write to a read-only folder, as root can.
 fn is_writable(rt: &HostRuntime, folder: &str) -> bool {
     match place_in(rt, folder, "tried") {
         Some(tried) => fs::write(rt, tried.as_str(), b"").is_ok(),

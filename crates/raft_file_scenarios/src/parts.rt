@@ -1,4 +1,4 @@
-//! A file of more than one part: what is read of its parts is what stands in it.
+//! A long file, which is read in parts: its parts have what the whole file has.
 
 use crate::told::assert_rows;
 use raft_base::History;
@@ -11,13 +11,13 @@ use std::alloc::{AllocError, Global};
 
 const PATH: &str = "0000000000000001.raftlog";
 
-/// Bytes in memory, which are read part by part.
+/// Bytes in memory, from which parts are read.
 #[derive(Drop)]
 struct BytesSource<'a> {
     alloc: Global,
     bytes: &'a [u8],
     given: History<FilePart>,
-    /// How many bytes were asked for at most at once.
+    /// The most bytes requested at once.
     most: usize,
 }
 
@@ -35,8 +35,8 @@ impl PartSource for BytesSource<'_> {
     }
 }
 
-/// How many records of 28 bytes a file has behind its header, and what stands behind them; what a
-/// check tells of it, the code of what stops the reading last; and how many bytes are read at most.
+/// The number of records of 28 bytes after the file's header, and the bytes after them; then what
+/// a check reports, the code of the fault that ends the reading, and the most bytes read at once.
 struct Case {
     count: usize,
     rest: &'static [u8],
@@ -133,7 +133,7 @@ fn is_checked(alloc: Global, bytes: &[u8], case: &Case) -> Result<bool, Fault> {
     )
 }
 
-/// How many items a dump of the parts gives, where it stops, and why.
+/// The number of items in a dump of the parts, the offset at which it ends, and why.
 #[derive(Drop)]
 struct Dumped {
     items: usize,
@@ -163,7 +163,7 @@ fn count<F: FileSystem>(reader: &mut LogItemReader<F>, image: &mut F) -> Dumped 
     }
 }
 
-// Those of one part; where it stops is a place in the part's image.
+// Dumps the items of one part. The end is an offset in the part's image.
 fn count_items<F: FileSystem>(alloc: Global, image: &mut F) -> Result<Dumped, Fault> {
     let mut reader = LogItemReader::new(alloc, vec![in alloc; file(alloc)?]?);
     let counted = count(&mut reader, image);

@@ -36,40 +36,41 @@ const CLEAN: &[u8] =
 const ENTRIES: &[u8] =
     b"\x00\x00\x00\x00\x00\x00\x22\x00\x00\x00\x00\x00\x00\x00\x00\x17\x61\x62\x63\xc2\x41\x24\x35\x01\x07\x01\x02\x01\x02\x01\x6f\x3d\x84\xf5";
 
-/// A wrong byte in their block.
+/// The entries with a wrong byte in their block.
 const ENTRIES_BROKEN: &[u8] =
     b"\x00\x00\x00\x00\x00\x00\x22\x00\x00\x00\x00\x00\x00\x00\x00\x17\x61\x63\x63\xc2\x41\x24\x35\x01\x07\x01\x02\x01\x02\x01\x6f\x3d\x84\xf5";
 
-/// Entries in a compressed block whose checksum holds.
+/// Entries in a compressed block with a right checksum.
 const COMPRESSED: &[u8] =
     b"\x00\x00\x00\x00\x00\x00\x22\x01\x00\x00\x00\x00\x00\x00\x00\x17\x78\x79\x7a\x67\xba\x8e\xeb\x01\x07\x01\x02\x01\x02\x01\x6f\x3d\x84\xf5";
 
-/// A wrong byte in that block.
+/// That block with a wrong byte.
 const COMPRESSED_BROKEN: &[u8] =
     b"\x00\x00\x00\x00\x00\x00\x22\x01\x00\x00\x00\x00\x00\x00\x00\x17\x78\x78\x7a\x67\xba\x8e\xeb\x01\x07\x01\x02\x01\x02\x01\x6f\x3d\x84\xf5";
 
-/// What comes next.
+/// What the next read finds.
 enum Found {
     /// A batch without items.
     Empty,
     /// The put of `PUT`.
     Put,
     Clean,
-    /// The entries of `ENTRIES`, in a block at this offset.
+    /// The entries of `ENTRIES`, whose block is at this offset.
     Entries(u64),
     End,
-    /// The fault's code.
+    /// A fault with this code.
     Refused(u8),
 }
 
-/// What a replay finds next, or a reading that looks at the blocks,
-/// and the place up to which the file has been read then.
+/// What the next read of a replay finds, or of a reading that also checks blocks, and the offset
+/// up to which the file has then been read.
 enum Step {
     Replay(Found, usize),
     Read(Found, usize),
 }
 
-/// A file of version 2: its number and alignment, the records after byte 128, and what is read.
+/// A file of version 2: its number and alignment, the records after byte 128, and what is read of
+/// it.
 pub(crate) struct Case {
     name: &'static str,
     seq: u64,
@@ -208,7 +209,7 @@ fn entry(seq: u64, offset: u64, index: u64, entry_offset: u32, entry_len: u32) -
     }
 }
 
-// Whether the item is the two entries of a block at this offset.
+// Whether the item has the two entries of a block at this offset.
 fn are_entries(content: &LogItemContent, seq: u64, offset: u64) -> bool {
     match content {
         LogItemContent::EntryIndexes(entries) => {
@@ -228,7 +229,7 @@ fn is_put(content: &LogItemContent) -> bool {
     }
 }
 
-// Whether these are the items that are wanted, each of group 7.
+// Whether these are the wanted items, each of group 7.
 fn has_items(items: &[LogItem], seq: u64, wanted: &Found) -> bool {
     match (wanted, items) {
         (Found::Empty, []) => true,
@@ -244,7 +245,7 @@ fn has_items(items: &[LogItem], seq: u64, wanted: &Found) -> bool {
     }
 }
 
-// Whether an answer is what is wanted.
+// Whether a read found what is wanted.
 fn is_found(seq: u64, answer: Result<Option<LogItemBatch>, Fault>, wanted: &Found) -> bool {
     match (&answer, wanted) {
         (Ok(None), Found::End) => true,
@@ -254,7 +255,7 @@ fn is_found(seq: u64, answer: Result<Option<LogItemBatch>, Fault>, wanted: &Foun
     }
 }
 
-// Whether the step comes to what the case says.
+// Whether the step ends as the case says.
 fn holds<F: FileSystem>(
     fs: &F,
     alloc: Global,
@@ -303,7 +304,7 @@ fn write<F: FileSystem>(fs: &mut F, bytes: &[u8]) -> Result<LogFileReader<F>, Fs
     LogFileReader::open(fs, &handle)
 }
 
-// A reader of a file of this format, behind its header; none where the file is too short for one.
+// A reader of a file of this format, after its header; `None` if the file is too short for one.
 fn reader_of<F: FileSystem>(
     fs: &mut F,
     alloc: Global,
@@ -326,7 +327,7 @@ fn format_of<F: FileSystem>(fs: &mut F, bytes: &[u8]) -> Result<Option<LogFileFo
     reader.parse_format(fs)
 }
 
-/// Whether each step comes to what the case says.
+/// Whether each step ends as the case says.
 pub(crate) fn is_read<F: FileSystem>(fs: &mut F, alloc: Global, case: &Case) -> bool {
     let mut bytes = Vec::new(alloc);
     if lay_out(case, &mut bytes).is_err() {
@@ -344,7 +345,7 @@ pub(crate) fn is_read<F: FileSystem>(fs: &mut F, alloc: Global, case: &Case) -> 
     }
 }
 
-/// Whether a record alone is no header.
+/// Whether a record without a header before it isn't read as a header.
 pub(crate) fn has_no_header<F: FileSystem>(fs: &mut F) -> bool {
     !matches!(format_of(fs, PUT), Ok(Some(_)))
 }

@@ -1,9 +1,9 @@
-//! What stands in a folder, and what an opening of it says.
+//! Reads and changes of a folder in a test, without the log.
 
 use raft_disk::OpenFault;
 use std::fs::{self, DirEntry};
 
-/// What an opening says, which is nothing if it doesn't fail.
+/// The text of an opening's fault; empty if the opening succeeds.
 pub(crate) fn text_of<T: Drop>(rt: &HostRuntime, opened: Result<T, OpenFault>) -> Option<String> {
     match opened {
         Ok(_) => Some(String::new(rt.alloc())),
@@ -11,12 +11,12 @@ pub(crate) fn text_of<T: Drop>(rt: &HostRuntime, opened: Result<T, OpenFault>) -
     }
 }
 
-/// The path of what stands at a path in a folder.
+/// The path of a name in a folder.
 pub(crate) fn place_in(rt: &HostRuntime, folder: &str, path: &str) -> Option<String> {
     format!(in rt.alloc(); "{folder}/{path}").ok()
 }
 
-/// Whether something stands there; none if that can't be told.
+/// Whether something has this path; `None` if that can't be found out.
 pub(crate) fn stands_at(rt: &HostRuntime, folder: &str, path: &str) -> Option<bool> {
     match place_in(rt, folder, path) {
         Some(place) => fs::exists(rt, place.as_str()).ok(),
@@ -40,7 +40,7 @@ pub(crate) fn writes(rt: &HostRuntime, folder: &str, path: &str, bytes: &[u8]) -
     }
 }
 
-/// Deletes the file there, as another program.
+/// Deletes the file, as another program would.
 pub(crate) fn loses(rt: &HostRuntime, folder: &str, path: &str) -> bool {
     match place_in(rt, folder, path) {
         Some(place) => fs::remove_file(rt, place.as_str()).is_ok(),
@@ -59,7 +59,7 @@ pub(crate) fn has_bytes(rt: &HostRuntime, folder: &str, path: &str, wanted: &[u8
     }
 }
 
-/// Lets files be made in a folder, or no more.
+/// Makes a folder writable or read-only.
 pub(crate) fn sets_writable(rt: &HostRuntime, folder: &str, writable: bool) -> bool {
     match fs::metadata(rt, folder) {
         Ok(found) => {
@@ -96,7 +96,7 @@ fn adds_entry(
     }
 }
 
-/// The names in a folder, and the texts of the files, except for a file of one name.
+/// The names in a folder with the texts of the files, except the file of one name.
 pub(crate) fn standing(rt: &HostRuntime, folder: &str, passed_over: &str) -> Option<Vec<String>> {
     let Ok(entries) = fs::read_dir(rt, folder) else {
         return None;
@@ -118,7 +118,7 @@ pub(crate) fn standing(rt: &HostRuntime, folder: &str, passed_over: &str) -> Opt
     }
 }
 
-/// Whether these stand in it.
+/// Whether the folder holds these names and texts.
 pub(crate) fn stands_so(
     rt: &HostRuntime,
     folder: &str,

@@ -1,4 +1,4 @@
-//! What the system said of a call that it refused.
+//! The system's text for a call that it refused.
 
 use crate::calls::{Step, take_alone};
 use crate::disk::{Disk, Reading};
@@ -17,14 +17,15 @@ const LONG: &str = "\
 
 const A: &str = "0000000000000001.raftlog";
 
-/// Another program deletes it.
+/// A file that another program deletes.
 const LOST: &str = "0000000000000002.raftlog";
 
 const TOO_LONG: &str = "File name too long";
 
 const GONE: &str = "No such file or directory";
 
-/// A call, what can't be done, with what, and the system's text; none where the system wasn't asked.
+/// A call, the action that fails, its path, and the system's text; none if the system wasn't
+/// called.
 pub(crate) struct Case(Step, Option<(&'static str, &'static str, &'static str)>);
 
 static CASES: [Case; 7] = [
@@ -37,7 +38,7 @@ static CASES: [Case; 7] = [
     Case(Step::Delete("none"), None),
 ];
 
-// Whether the folder tells what the system said.
+// Whether the folder reports this text.
 fn has_said(
     rt: &HostRuntime,
     folder: &str,
@@ -56,7 +57,7 @@ fn has_said(
     }
 }
 
-// Whether the call fails, and that is told.
+// Whether the call fails and the folder reports its text.
 fn tells<F: Disk + FileSystem>(rt: &HostRuntime, folder: &str, files: &mut F, case: &Case) -> bool {
     let Case(step, wanted) = case;
     loses(rt, folder, LOST)
@@ -64,7 +65,7 @@ fn tells<F: Disk + FileSystem>(rt: &HostRuntime, folder: &str, files: &mut F, ca
         && has_said(rt, folder, files.last_refusal(), wanted)
 }
 
-/// Whether the call fails in a folder of two files, and the folder tells why.
+/// Whether a call fails in a folder of two files and the folder reports its text.
 pub(crate) fn is_told<F: Disk + FileSystem + Drop>(
     rt: HostRuntime,
     folder: &str,

@@ -1,4 +1,4 @@
-//! Dumps in which a call on the files fails: the rest is given as before.
+//! Dumps in which one call on the files fails: the dump still returns the rest.
 
 use crate::failing::Failing;
 use crate::in_memory::{Tried, holds_in_memory};
@@ -17,16 +17,16 @@ const FILES: &[FileParts] = &[
     ("a/0000000000000001.rewrite", &[HEADER, PUT]),
 ];
 
-/// The items' groups, file by file.
+/// The groups of all items, file by file.
 const WHOLE: &[u64] = &[1, 2, 3, 1];
 
-/// A failed call in a dump.
+/// In place of a group: a failed call.
 const FAILED: u64 = 0;
 
-/// In place of what a file gives, where a call on it fails.
+/// The items if a call on the first, second or third file fails.
 static WITHOUT: [&[u64]; 3] = [&[FAILED, 2, 3, 1], &[1, FAILED, 1], &[1, 2, 3, FAILED]];
 
-/// A sort of calls, and how many of them a dump of three files makes at the least.
+/// A sort of calls, and the least number of them in a dump of three files.
 pub(crate) struct Sort(FsCall, u64);
 
 static SORTS: [Sort; 5] = [
@@ -39,10 +39,10 @@ static SORTS: [Sort; 5] = [
 
 const KINDS: [IoKind; 3] = [IoKind::NoSpace, IoKind::NotFound, IoKind::Other];
 
-/// More calls of a sort than a dump makes.
+/// More calls of one sort than a dump makes.
 const MANY: u64 = 50;
 
-/// Why a dump may fail: as this kind of call, or for want of memory.
+/// Why a dump may fail: with this kind of fault, or out of memory.
 #[derive(Clone, Copy)]
 enum Cause {
     Call(IoKind),
@@ -70,7 +70,7 @@ fn group_of(next: Result<LogItem, Fault>, cause: Cause) -> Option<u64> {
     }
 }
 
-// Whether the dump ends, and nothing in it fails for another reason.
+// Whether the dump ends, and each failure in it has this reason.
 fn ends<F: FileSystem>(
     fs: &mut F,
     items: &mut LogItemReader<F>,
@@ -89,7 +89,7 @@ fn ends<F: FileSystem>(
     Ok(false)
 }
 
-// What a dump of the folder gives: only its own failure, where it can't be begun; none where
+// The groups that a dump of the folder returns; only its failure if it can't begin; `None` if
 // something fails for another reason.
 fn dumped<F: FileSystem>(
     alloc: Global,
@@ -115,7 +115,7 @@ fn is_whole(given: &Option<Vec<u64>>) -> bool {
     }
 }
 
-// Whether the dump failed at once, or at one of the files alone.
+// Whether the dump failed at its beginning, or at only one of the files.
 fn has_failed_once(given: &[u64]) -> bool {
     for without in &WITHOUT {
         if given == *without {
@@ -139,8 +139,8 @@ fn gives_all<F: FileSystem>(alloc: Global, fs: &mut F, cause: Cause) -> bool {
     }
 }
 
-// Whether the nth call of the sort came, and failed its file alone, and the next dump gives all;
-// none where something else came of it.
+// Whether the nth call of the sort was made and failed only for its file, and a second dump
+// returns all. `None` if the outcome is another one.
 fn fails_at<F: Failing>(alloc: Global, call: FsCall, nth: u64, kind: IoKind) -> Option<bool> {
     let mut fs = F::fresh(alloc);
     if fill(&mut fs, alloc, FILES).is_err() || fs.fail(call, nth, kind).is_err() {
@@ -158,7 +158,8 @@ fn fails_at<F: Failing>(alloc: Global, call: FsCall, nth: u64, kind: IoKind) -> 
     if is_right { Some(is_failed) } else { None }
 }
 
-/// Whether each call of the sort fails its file alone, as many as a dump makes at the least.
+/// Whether each call of the sort fails only for its file, and a dump makes at least the row's
+/// number of them.
 pub(crate) fn fails_each_time<F: Failing>(alloc: Global, sort: &Sort, kind: IoKind) -> bool {
     for nth in 1..MANY {
         match fails_at::<F>(alloc, sort.0, nth, kind) {
@@ -180,8 +181,8 @@ fn a_failing_call_fails_its_file_alone(rt: HostRuntime) {
     }
 }
 
-// Whether a dump gives all; with the Nth request for memory refused (`rt try --test --fail-alloc
-// N`) all but a file, and the next one all.
+// Whether a dump returns all items. If the Nth request for memory is refused (`rt try --test
+// --fail-alloc N`), the dump leaves out one file, and a second dump returns all.
 fn is_given<F: Failing>(alloc: Global) -> Result<bool, Fault> {
     let mut fs = F::fresh(alloc);
     fill(&mut fs, alloc, FILES)?;
@@ -192,7 +193,7 @@ fn is_given<F: Failing>(alloc: Global) -> Result<bool, Fault> {
     )
 }
 
-// tools/refusals takes `error: Memory` for a want of memory.
+// tools/refusals reads `error: Memory` as out of memory.
 #[test]
 fn a_dump_without_memory_goes_on(rt: HostRuntime) -> Result<(), Fail> {
     assert!(rt; is_given::<MemoryFileSystem>(rt.alloc())?);

@@ -1,4 +1,4 @@
-//! Reserved files that an opening passes over: they stand as they did until they are deleted.
+//! Reserved files that an opening doesn't read: they stay unchanged until they are deleted.
 
 use crate::calls::{Step, is_answered, take_alone};
 use crate::disk::{Disk, Reading};
@@ -12,7 +12,7 @@ const LOG: &str = "0000000000000009.raftlog";
 
 const RESERVED: &str = "0000000000000001.raftlog.reserved";
 
-/// In the second folder.
+/// A reserved file in the second folder.
 const OTHER: &str = "s/0000000000000002.raftlog.reserved";
 
 const KEPT: &[u8] = b"kept";
@@ -33,14 +33,14 @@ fn is_out_of_reach<F: FileSystem>(files: &mut F) -> bool {
         && files.is_file(LOG)
 }
 
-// Whether reserved files are passed over by the opening.
+// Whether the opening ignored the reserved files.
 fn are_unread<F: FileSystem>(rt: &HostRuntime, folder: &str, files: &mut F) -> bool {
     is_out_of_reach(files)
         && has_bytes(rt, folder, RESERVED, KEPT)
         && has_bytes(rt, folder, OTHER, KEPT)
 }
 
-// Whether they are gone after the deletion, and a file that is then made in their place stays.
+// Whether the deletion removes them, and a file that is then made in their place stays.
 fn are_deleted<F: Disk + FileSystem>(rt: &HostRuntime, folder: &str, files: &mut F) -> bool {
     files.delete_unread().is_ok()
         && stands_at(rt, folder, RESERVED) == Some(false)
@@ -50,7 +50,7 @@ fn are_deleted<F: Disk + FileSystem>(rt: &HostRuntime, folder: &str, files: &mut
         && stands_at(rt, folder, RESERVED) == Some(true)
 }
 
-/// Whether an opening without them passes over reserved files.
+/// Whether an opening without reserved files ignores them.
 pub(crate) fn are_passed_over<F: Disk + FileSystem + Drop>(rt: HostRuntime, folder: &str) -> bool {
     if !makes(&rt, folder) {
         return false;

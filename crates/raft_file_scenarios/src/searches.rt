@@ -1,15 +1,15 @@
-//! Searches for stale records among bytes that are no log's.
+//! Searches for stale records in bytes that aren't a log's.
 
 use crate::told::assert_case;
 use raft_dump::{StaleSearch, search_stale};
 use raft_records::{Fault, FileId, LogQueue};
 use std::alloc::Global;
 
-/// The header of a record of 8,192 bytes, of which the last sixteen are its footer.
+/// The header of a record of 8,192 bytes. The last 16 bytes are its footer.
 const HEAD: [u8; 16] = [0, 0, 0, 0, 0, 0x20, 0, 0, 0, 0, 0, 0, 0, 0, 0x1f, 0xf0];
 
-/// So many of these headers one after the other, and as many zeros as a record is long. 8,192 of these records are 64 MiB
-/// together: that much is summed, and no more.
+/// The number of headers in sequence, with zeros of one record's length after them. 8,192 such
+/// records have 64 MiB together, the most that a search sums.
 static SEARCHES: [(usize, StaleSearch); 4] = [
     (0, StaleSearch::NotStale),
     (1, StaleSearch::NotStale),

@@ -1,4 +1,4 @@
-//! Settings: which are refused, and what becomes of the others.
+//! Settings: which are refused, and which limits the others give.
 
 use crate::told::assert_rows;
 use raft_config::Config;
@@ -20,7 +20,7 @@ enum Setting {
     SpillIntoDir,
 }
 
-/// What settings come to.
+/// The limits that settings give.
 #[derive(Clone, Copy, PartialEq)]
 struct Limits {
     block_size: u64,
@@ -40,7 +40,7 @@ const DEFAULT_LIMITS: Limits = Limits {
     prefill_capacity: 0,
 };
 
-/// What is set, and what it comes to or why it is refused.
+/// Settings, and their limits or why they are refused.
 struct Settings(&'static [Setting], Result<Limits, &'static str>);
 
 static SETTINGS: [Settings; 8] = [
@@ -117,7 +117,7 @@ fn limits_of(config: &Config) -> Limits {
     }
 }
 
-// Whether the settings come to this, or are refused for this reason.
+// Whether the settings give these limits, or are refused for this reason.
 fn is_sanitized(config: &mut Config, wanted: &Result<Limits, &'static str>) -> bool {
     match (config.sanitize(), wanted) {
         (Ok(()), Ok(limits)) => limits_of(config) == *limits,

@@ -1,4 +1,4 @@
-//! Texts of settings: what they are read as, what is written for them, and which are refused.
+//! Texts of settings: how they are read, how settings are written, and which texts are refused.
 
 use crate::told::assert_rows;
 use raft_config::Config;
@@ -38,14 +38,14 @@ spill-dir = \"\"
 target-file-size = \"1023B\"
 ";
 
-/// A text, and the text that is written for the settings that it is read as.
+/// A text, and the text that is written for the settings read from it.
 struct Read(&'static str, &'static str);
 
 static TEXTS: [Read; 6] = [
     Read("", DEFAULTS),
     Read(DEFAULTS, DEFAULTS),
     Read(ALL_SET, ALL_SET),
-    // Keys that are no setting's, comments, and sizes in other units than they are written in.
+    // Unknown keys, comments, and sizes in other units than the written ones.
     Read(
         "batch-compression-threshold = \"8KB\"\ncompression-level = 0.5\n# a comment\n[other]\ndir = 1\n",
         DEFAULTS,
@@ -124,7 +124,8 @@ fn texts_are_refused(rt: HostRuntime) {
     assert_rows(&rt, rt.alloc(), &mut (), &REFUSED);
 }
 
-/// A text over the settings of another, and the size of the read block and the number of threads that come of it.
+/// A text read over the settings of another one, and the resulting read block size and number of
+/// threads.
 struct Laid(&'static str, &'static str, u64, usize);
 
 static LAID: [Laid; 4] = [
@@ -159,11 +160,11 @@ fn texts_are_laid_over_settings(rt: HostRuntime) {
     assert_rows(&rt, rt.alloc(), &mut (), &LAID);
 }
 
-/// Settings from text, and what of them is used, or why they are refused.
+/// Settings from text, and the values that are used, or why the settings are refused.
 struct Sanitized(&'static str, Result<Used, &'static str>);
 
-/// What is used of settings: the size of the read block, the number of threads, the threshold of the Rewrite queue, the
-/// limit of files that are made ahead, and how many files are kept to be used again and made ahead.
+/// The values used: the read block size, the number of threads, the Rewrite queue's threshold, the
+/// limit of files made ahead, and the numbers of files kept for reuse and made ahead.
 struct Used(u64, usize, u64, Option<u64>, usize, usize);
 
 static SANITIZED: [Sanitized; 6] = [

@@ -1,12 +1,12 @@
-//! Bytes as lines spell them, and read back.
+//! Bytes as they are spelled in lines, and read back.
 
 use crate::told::assert_right;
 use raft_inspect::{Lines, Misspelled, Word, read_digits, read_text};
 use raft_records::Fault;
 use std::alloc::{AllocError, Global};
 
-/// Bytes, and how they are spelled: as text, in digits and as a value of JSON. Made by python's `repr`, `hex` and
-/// `json`; bytes that are no UTF-8 by hand.
+/// Bytes, and how they are spelled: as text, as hexadecimal digits and as a JSON value. Made by
+/// Python's `repr`, `hex` and `json`; bytes that aren't UTF-8 by hand.
 struct Spelled(&'static [u8], &'static str, &'static str, &'static str);
 
 static ROWS: [Spelled; 8] = [
@@ -32,7 +32,7 @@ fn line_of(alloc: Global, bytes: &[u8], json: bool, hex: bool) -> Result<Lines, 
     Ok(lines)
 }
 
-// Whether lines are this text between two others.
+// Whether the lines are this text between two others.
 fn is_line(lines: &Lines, front: &str, text: &str, end: &str) -> bool {
     let Some(rest) = lines.as_bytes().strip_prefix(front.as_bytes()) else {
         return false;
@@ -85,7 +85,7 @@ fn bytes_are_read_back(rt: HostRuntime) {
     assert_right(&rt, wrong_row(rt.alloc()));
 }
 
-// The first byte whose spelling isn't read back.
+// The first byte whose spelling isn't read back as that byte.
 fn wrong_byte(alloc: Global) -> Result<Option<usize>, Fault> {
     for byte in 0..=255u8 {
         let lines = line_of(alloc, &[byte], false, false)?;
@@ -102,7 +102,7 @@ fn each_byte_is_read_back(rt: HostRuntime) {
     assert_right(&rt, wrong_byte(rt.alloc()));
 }
 
-/// Texts that stand for no bytes, and digits that don't.
+/// Texts that spell no bytes, and digits that spell none.
 static TEXTS: [&[u8]; 5] = [b"\\", b"a\\", b"\\x1", b"\\xg0", b"\\q"];
 
 static DIGITS: [&[u8]; 3] = [b"1", b"123", b"0g"];

@@ -1,4 +1,5 @@
-//! A file that is used again, whose first bytes were written over: what stands behind its records is told from damage.
+//! A reused file whose first bytes were written over: stale records after its own aren't reported
+//! as damage.
 
 use crate::in_memory::{Tried, holds_in_memory};
 use crate::told::assert_case;
@@ -18,7 +19,8 @@ const V1: &[u8] =
 const V2: &[u8] = b"RAFT-LOG-FILE-HEADER-9986AB3E47F320B394C8E84916EB0ED5\
     \x00\x00\x00\x00\x00\x00\x00\x02\x00\x00\x00\x00\x00\x00\x00\x00";
 
-/// The record of a put, made by Python: signed for file 7, for files 3 and 9, and unsigned.
+/// The record of a put, made by Python. The four constants are signed for file 7, file 3, file 9,
+/// and unsigned.
 const OWN: &[u8] = b"\x00\x00\x00\x00\x00\x00\x1c\x00\x00\x00\x00\x00\x00\x00\x00\x10\
     \x01\x01\x03\x01\x01\x61\x01\x78\x67\x81\x67\x02";
 
@@ -31,11 +33,12 @@ const LATER: &[u8] = b"\x00\x00\x00\x00\x00\x00\x1c\x00\x00\x00\x00\x00\x00\x00\
 const UNSIGNED: &[u8] = b"\x00\x00\x00\x00\x00\x00\x1c\x00\x00\x00\x00\x00\x00\x00\x00\x10\
     \x01\x01\x03\x01\x01\x61\x01\x78\x60\x81\x67\x02";
 
-/// Bytes that begin no record, as the end of one that was written over.
+/// Bytes that don't begin a record: the end of one that was partly written over.
 const TORN: &[u8] = b"\x61\x01\x78\x63\x81\x67\x02";
 
-/// The parts of file 7, and the end of the line that tells it: what stands behind its records, and what an opening in each
-/// mode does with it; then how many files the default mode cuts, and how many bytes of an earlier file.
+/// The parts of file 7, and the end of its line in a check: what follows its records, and what an
+/// opening in each mode does. Then how many files the default mode cuts, and the number of stale
+/// bytes.
 pub(crate) struct Case {
     parts: &'static [&'static [u8]],
     line: &'static str,
@@ -56,14 +59,14 @@ static CASES: [Case; 10] = [
         cut: 0,
         stale: 35,
     },
-    // Nothing was written over yet but the header.
+    // Only the header was written over.
     Case {
         parts: &[V2, OLD, OLD],
         line: "records 0 read 69 size 125 rest stale absolute fail tail cut any cut\n",
         cut: 0,
         stale: 56,
     },
-    // A record of its own stands behind what is broken: it is lost.
+    // One of the file's own records comes after the broken one: it is lost.
     Case {
         parts: &[V2, OWN, TORN, OWN],
         line: "records 1 read 97 size 132 rest broken absolute fail tail cut any cut\n",
@@ -82,7 +85,7 @@ static CASES: [Case; 10] = [
         cut: 1,
         stale: 0,
     },
-    // No file after it was there before it.
+    // A record of a later file can't be stale.
     Case {
         parts: &[V2, OWN, LATER],
         line: "records 1 read 97 size 125 rest broken absolute fail tail cut any cut\n",
@@ -95,7 +98,7 @@ static CASES: [Case; 10] = [
         cut: 0,
         stale: 68,
     },
-    // The records of version 1 tell no file.
+    // Records of version 1 don't name their file.
     Case {
         parts: &[V1, UNSIGNED, OLD],
         line: "records 1 read 89 size 117 rest broken absolute fail tail cut any cut\n",
@@ -131,7 +134,7 @@ fn has_outlook(alloc: Global, found: &QueueFiles, case: &Case) -> bool {
         && outlook.stale == case.stale
 }
 
-/// Whether the line of the file and what an opening does come to what the case says.
+/// Whether the file's line and the outlook of an opening are the case's.
 pub(crate) fn is_told<F: FileSystem>(fs: &mut F, alloc: Global, case: &Case) -> bool {
     match found_in(fs, alloc, case) {
         Ok(found) => has_line(alloc, &found, case) && has_outlook(alloc, &found, case),

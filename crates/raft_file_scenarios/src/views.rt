@@ -1,4 +1,4 @@
-//! Looks at a folder: what they read, and that the folder is byte for byte as before.
+//! Looks at a folder: what they read, and that they leave the folder byte for byte unchanged.
 
 use crate::disk::{Disk, Reading};
 use crate::in_folder::{Tried, holds_in_folder};
@@ -15,7 +15,7 @@ fn are_names(names: &[String]) -> bool {
     }
 }
 
-// Whether a look finds the names, the bytes of the log, and whether a writer has the folder.
+// Whether a look finds the names and the bytes of the log, and whether a writer has the folder.
 fn is_seen(view: &FolderView, in_use: bool) -> bool {
     match (view.names(""), view.read("log")) {
         (Ok(names), Ok(bytes)) => {
@@ -55,8 +55,8 @@ fn sees_beside_a_writer<F: Disk + Drop>(rt: HostRuntime, folder: &str) -> bool {
     }
 }
 
-/// Whether looks find the log, and leave the folder byte for byte as it was: at a folder without a
-/// lock, at one that may not be written, and at one that a writer has.
+/// Whether looks find the log and leave the folder unchanged: without a lock's file, in a
+/// read-only folder, and while a writer has the folder.
 pub(crate) fn change_nothing<F: Disk + Drop>(rt: HostRuntime, folder: &str) -> bool {
     makes(&rt, folder)
         && sees_the_log(rt, folder, false)
@@ -71,7 +71,7 @@ fn looks_change_nothing(rt: HostRuntime) {
     assert_row(&rt, holds_in_folder(rt, "looks", &Tried::Looks), "looks");
 }
 
-// What a look at a place says, which is nothing if it doesn't fail.
+// The text of a look's fault; empty if the look succeeds.
 fn fault_of(rt: HostRuntime, place: &str) -> Option<String> {
     text_of(&rt, FolderView::open(rt, place))
 }
@@ -80,7 +80,7 @@ const IN_PLACE: &str = "a file stands in the folder's place";
 
 const NOWHERE: &str = "No such file or directory";
 
-// Whether a look at a place says this, or begins so.
+// Whether a look's fault has this text, or begins with it.
 fn says(rt: HostRuntime, place: &str, text: &str, is_all: bool) -> bool {
     match (
         fault_of(rt, place),
@@ -93,7 +93,7 @@ fn says(rt: HostRuntime, place: &str, text: &str, is_all: bool) -> bool {
     }
 }
 
-// Whether a look at a path in the folder says this, or begins so.
+// The same for a path in the folder.
 fn says_of(rt: HostRuntime, folder: &str, path: &str, text: &str, is_all: bool) -> bool {
     match place_in(&rt, folder, path) {
         Some(place) => says(rt, place.as_str(), text, is_all),
@@ -108,7 +108,7 @@ fn has_no_name(rt: HostRuntime) -> bool {
     }
 }
 
-/// Whether looks at a file, at nothing and at an empty name say so, and make nothing.
+/// Whether looks at a file, at nothing and at an empty name fail so, and create nothing.
 pub(crate) fn fail_so(rt: HostRuntime, folder: &str) -> bool {
     makes(&rt, folder)
         && says_of(rt, folder, "log", IN_PLACE, true)

@@ -1,4 +1,4 @@
-//! What the program prints for a line.
+//! The results of lines, and how the program prints them.
 
 ghost use Rattle.std.specs.Prelude.{◌≡◌};
 
@@ -20,11 +20,12 @@ pub(crate) enum Answer {
     Span((u64, u64)),
     /// A group's keys and values, in the keys' order.
     Pairs(Result<Vec<KeyAndValue>, Fault>),
-    /// The engine is gone, so that the program ends.
+    /// The fault that ended the engine, so that the program ends.
     Fatal(Fault),
 }
 
-// One call in a proof that drops it; derived, it would be one of each variant's fields (docs/DECISIONS.md).
+// One call in each proof that drops it. A derived `Drop` would be one call for each field of each
+// variant (docs/DECISIONS.md).
 impl Drop for Answer {
     fn drop(self) {
         match self {
@@ -42,7 +43,7 @@ impl Drop for Answer {
 impl Answer {
     ghost use Rattle.raft_lines.specs.Program.{is_fatal};
 
-    /// Whether the program ends with it.
+    /// Whether the program ends after this result.
     pub(crate) fn is_fatal(&self) -> bool
         ensures value { result ≡ is_fatal self.now }
     {
@@ -65,7 +66,7 @@ pub(crate) fn print<W: Write>(output: &mut W, answer: &Answer) -> io::Result<()>
 
 fn print_outcome<W: Write>(output: &mut W, outcome: &Outcome) -> io::Result<()> {
     match outcome {
-        // Nothing was written, since the write's number was old.
+        // The number had already acted, and nothing was written.
         Outcome::Size(Ok(0)) => output.write_all(b"old\n"),
         Outcome::Size(Ok(_))
         | Outcome::Sizes(Ok(_))

@@ -1,4 +1,4 @@
-//! The program `raftlog` over any reader and writer: its lines, what each asks for, and what it prints.
+//! The program `raftlog` over any reader and writer: its lines, their requests and their results.
 #![tactic(auto)]
 
 mod answer;

@@ -1,4 +1,4 @@
-//! A line of the program's input.
+//! The lines of the program's input.
 ghost use Rattle.std.specs.Prelude.{◌≡◌, ◌==◌, ◌≤◌, List, ℕ, length, None, Some, [], ◌∷◌, IfOk, MatchOption, option_map, option_and_then};
 ghost use Rattle.std.specs.List.{position_or_len};
 ghost use Rattle.raft_script.specs.Number.{number_in};
@@ -8,7 +8,7 @@ use raft_records::LogQueue;
 use raft_script::{Act, Op, entries_between, number_of};
 use std::alloc::{AllocError, Global};
 
-/// What a line asks for.
+/// The request of a line.
 #[derive(Clone, Copy)]
 pub(crate) enum Line<'a> {
     /// An empty line or a comment.
@@ -19,7 +19,7 @@ pub(crate) enum Line<'a> {
     Crash(CrashChoice),
 }
 
-/// What is only looked at.
+/// A read.
 #[derive(Clone, Copy)]
 pub(crate) enum Look {
     /// The indexes of a group's first and last entries.
@@ -44,7 +44,7 @@ pub(crate) enum Call<'a> {
         key: &'a [u8],
         sync: bool,
     },
-    /// A put with a number of its group, which acts once.
+    /// A put with a number of its group, which acts at most once.
     Once {
         group: u64,
         number: u64,
@@ -77,13 +77,13 @@ pub(crate) enum Call<'a> {
     },
     Groups,
     Sync,
-    /// The whole Append queue is written again.
+    /// Rewrites the whole Append queue.
     RewriteAppend,
-    /// The whole Rewrite queue is written again.
+    /// Rewrites the whole Rewrite queue.
     RewriteRewrite,
-    /// Unreferenced files in front are dropped.
+    /// Drops the first files of the queues if nothing refers to them.
     PurgeStale,
-    /// What the queues need is rewritten, and files go.
+    /// Purges both queues by watermarks, if they need it.
     Purge,
 }
 
@@ -150,12 +150,12 @@ impl Call<'_> {
 pub(crate) enum CrashChoice {
     All,
     Synced,
-    /// The bytes now, except in the places that were touched since the last sync: only so many of
-    /// these, the first ones, hold them; the others hold the byte.
+    /// The bytes at the crash, except those written since the last sync: only the first ones, as
+    /// many as this number, are kept, and the others have this value.
     Torn(u64, u8),
 }
 
-/// `None` for a line that asks for nothing the program knows.
+/// The request of a line; `None` if it is no line of the program.
 pub(crate) fn parse_line(text: &[u8]) -> Option<Line<'_>>
     ensures value { option_map asked_of result ≡ asked_in text.now }
 {
@@ -420,7 +420,7 @@ fn parse_two_numbers(rest: &[u8]) -> Option<(u64, u64)>
     Some((first, second))
 }
 
-// A number, after which the line ends.
+// A number at the end of the line.
 fn parse_last_number(rest: &[u8]) -> Option<u64>
     ensures value { result ≡ option_and_then number_by (words_in rest.now) }
 {
@@ -429,8 +429,8 @@ fn parse_last_number(rest: &[u8]) -> Option<u64>
     Some(number)
 }
 
-// The first word, and what follows the space after it. A word is of printable characters, and one
-// space is between two words. After the last word nothing follows.
+// The first word, and the text after the space that follows it. Words have only printable
+// characters, and exactly one space is between two words. After the last word the text is empty.
 fn split_word(text: &[u8]) -> Option<(&[u8], &[u8])>
     ensures value { MatchOption result (HasNoWord text.now)
         (λ found. BeginsWith text.now found.0.now found.1.now) }
@@ -441,7 +441,7 @@ fn split_word(text: &[u8]) -> Option<(&[u8], &[u8])>
     }
     match rest {
         [] => Some((word, rest)),
-        // A space at the end of the line would come before an empty word.
+        // A space at the end of the line would begin an empty word.
         [_] => None,
         [_, rest @ ..] => Some((word, rest)),
     }

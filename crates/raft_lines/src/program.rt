@@ -31,16 +31,16 @@ use std::io::{BufRead, BufReader, BufWriter, Read, Write};
 /// How a run of the program ended.
 #[derive(Clone, Copy, Debug, PartialEq, Eq)]
 pub enum Ended {
-    /// The input was read to its end.
+    /// The whole input was read.
     Done,
-    /// A line, counted from 1, asks for nothing that the program knows.
+    /// The line with this number, counted from 1, is no line of the program.
     BadLine(u64),
     /// The input could not be read, or memory ran out outside the engine's calls.
     Input,
     /// The output could not be written.
     Output,
-    /// The settings could not be made, the engine not be opened or closed, or a crash wanted memory, and the refusal was
-    /// printed.
+    /// Settings could not be made, the engine could not be opened or closed, or memory for a crash
+    /// ran out. The fault was printed.
     Opening,
 }
 
@@ -48,7 +48,7 @@ type MemoryEngine = Engine<MemoryFileSystem>;
 
 type Opening = Result<MemoryEngine, Refused<MemoryFileSystem>>;
 
-/// Reads lines, does what each asks for over files in memory, and writes the results.
+/// Reads lines, carries out each over files in memory, and writes the results.
 /// crates/raftlog/README.md has the lines and their results.
 pub fn serve<R: Read + Drop, W: Write + Drop>(alloc: Global, reader: R, writer: W) -> Ended
     ensures lines { IfSome (R.remaining reader) (λ text. EndsOn text result) }
@@ -77,8 +77,8 @@ fn serve_lines<R: BufRead, W: Write>(alloc: Global, input: &mut R, output: &mut 
     ended
 }
 
-// Over any files, and by a call: the prover takes long over a drop of an engine, longest of one
-// over files of one kind.
+// Drops an engine by a call over any files: the prover takes long over such a drop, longest if it
+// names the files' type.
 fn let_go<F: FileSystem + Drop>(engine: Option<Engine<F>>) {
     if let Some(engine) = engine {
         engine.give_up();
@@ -104,7 +104,8 @@ fn serve_each<R: BufRead, W: Write>(
     Ended::Input
 }
 
-// The next line, which has this number, and how the program ended if it ends there. The text is the line's, used again.
+// Carries out the next line, which has this number, and returns how the program ended if it ends
+// there. The buffer for the line is reused.
 fn serve_next<R: BufRead, W: Write>(
     alloc: Global,
     settings: &mut Settings,
@@ -142,7 +143,7 @@ fn serve_line<W: Write>(
     }
 }
 
-// A line that sets this text.
+// Carries out a line that sets a key.
 fn serve_set(settings: &mut Settings, number: u64, set: &[u8]) -> Option<Ended>
     ensures lines { let asked = were_read settings.old in
         IsServed asked asked number (were_read settings.new) result }
@@ -154,7 +155,7 @@ fn serve_set(settings: &mut Settings, number: u64, set: &[u8]) -> Option<Ended>
     }
 }
 
-// Any other line.
+// Carries out any other line.
 fn serve_asked<W: Write>(
     alloc: Global,
     settings: &mut Settings,
@@ -182,7 +183,7 @@ fn serve_asked<W: Write>(
     }
 }
 
-// The next line without its newline, if there is one.
+// Reads the next line without its newline. Returns whether there was one.
 fn read_line<R: BufRead>(input: &mut R, line: &mut Vec<u8>) -> io::Result<bool>
     ensures line { IfSome (R.Read.remaining input.old) (λ text. IfOk result (λ found.
         IsNextLine found text line.new.items (R.Read.remaining input.new))) }
@@ -197,7 +198,7 @@ fn read_line<R: BufRead>(input: &mut R, line: &mut Vec<u8>) -> io::Result<bool>
     Ok(true)
 }
 
-// The settings are read and the engine is opened at the first line that asks for something.
+// Carries out a line. The settings are read and the engine is opened at the first request.
 fn answer_line(
     alloc: Global,
     settings: &mut Settings,
@@ -219,7 +220,7 @@ fn answer_line(
     }
 }
 
-// What the line asks for, where these are the settings.
+// Carries out a request with these settings.
 fn answer_by(
     alloc: Global,
     config: &Config,
@@ -250,7 +251,7 @@ fn take_or_open(
     }
 }
 
-// What the line asks for, of the engine that it meets.
+// Carries out a request on this engine.
 fn answer_asked(
     alloc: Global,
     config: &Config,
@@ -268,7 +269,7 @@ fn answer_asked(
     answer_met(alloc, config, engine, met, line)
 }
 
-// Carries out a line over any files, except a crash.
+// Carries out any request except a crash, over any files.
 fn answer_met<F: FileSystem + Drop>(
     alloc: Global,
     config: &Config,
@@ -349,7 +350,7 @@ fn copied(config: &Config) -> Result<Config, AllocError>
     }
 }
 
-// The engine goes as it is, and its files as the crash leaves them are opened again.
+// Drops the engine without closing it, and opens the files that the crash leaves.
 fn crash(
     alloc: Global,
     config: &Config,
@@ -404,7 +405,7 @@ fn answer_opening<F: FileSystem + Drop>(
     }
 }
 
-// What a crash leaves that does the same to every file.
+// The files after a crash that leaves each file in the same way.
 fn crashed(
     alloc: Global,
     config: &Config,
@@ -420,7 +421,7 @@ fn crashed(
     files.crash(&choices_of(alloc, count, left)?)
 }
 
-// The same for so many files.
+// The same choice for each of so many files.
 fn choices_of(alloc: Global, count: usize, left: &CrashChoice) -> Result<Vec<Choice>, AllocError>
     ensures bytes { IfOk result (λ choices. NameNoBytes choices.items) }
 {
@@ -431,7 +432,7 @@ fn choices_of(alloc: Global, count: usize, left: &CrashChoice) -> Result<Vec<Cho
     Ok(choices)
 }
 
-// How many files are in the folders of the settings.
+// The number of files in the settings' folders.
 fn count_files<F: FileSystem>(alloc: Global, config: &Config, files: &mut F) -> Result<usize, Fault>
     ensures unchanged { F.directory files.new ≡ F.directory files.old }
     ensures cause { IfErr result IsStorageOrMemory }
@@ -463,7 +464,7 @@ fn choice_of(left: &CrashChoice) -> Choice
     }
 }
 
-// Does the call's operation, with its outcome, as `run` does each of its own.
+// Runs a call as a `step` of `run`, and returns its result.
 fn answer_call<F: FileSystem>(
     alloc: Global,
     engine: &mut Engine<F>,

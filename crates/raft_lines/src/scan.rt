@@ -18,7 +18,7 @@ struct Copies {
 }
 
 impl Copies {
-    // Whether there was memory for a copy.
+    // Keeps a copy. Returns whether there was memory for it.
     fn keep(&mut self, key: &[u8], value: &[u8]) -> bool
         ensures value { self.new.is_whole ≡ result }
         ensures ok { result ≡ true → listed self.new.pairs.items
@@ -29,7 +29,8 @@ impl Copies {
     }
 }
 
-/// A group's keys with their values, in the order of the keys' bytes, without its number.
+/// A group's keys with their values, in the order of the keys' bytes, without the number that the
+/// group keeps.
 pub(crate) fn pairs_of<F: FileSystem>(
     alloc: Global,
     engine: &Engine<F>,

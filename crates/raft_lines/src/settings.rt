@@ -1,4 +1,4 @@
-//! The settings of the program's engine: its own, and over them what the first lines set.
+//! The settings of the program's engine: its own, and the keys that the first lines set.
 ghost use Rattle.std.specs.Prelude.{◌≡◌, ◌++◌, ◌∷◌, [], not, false, true, None, Some, IfErr, IfOk, IfSome, OnOk, option_map};
 ghost use Rattle.raft_lines.specs.Settings.{AreOwn, IsSetRefusal, SetsOwn, text_set, were_read};
 
@@ -10,16 +10,16 @@ use std::str;
 
 const FOLDER: &str = "raft";
 
-/// What lines set, and the settings that are made of it once another line asks for something.
+/// The lines that set keys, and the settings that are made of them at the first request.
 #[derive(Drop)]
 pub(crate) struct Settings {
-    // The texts of the lines, each with its end.
+    // The texts of the lines, each with a newline.
     lines: Vec<u8>,
     config: Option<Config>,
 }
 
 impl Settings {
-    /// Those of no lines.
+    /// Without lines.
     pub(crate) fn new(alloc: Global) -> Settings
         ensures lines { result.lines.items ≡ [] }
         ensures read { were_read result ≡ false }
@@ -30,8 +30,7 @@ impl Settings {
         }
     }
 
-    /// Adds the text of a line, and returns whether it did: not after a line has asked for
-    /// something.
+    /// Adds the text of a line. Returns whether it did: after the first request it doesn't.
     pub(crate) fn add(&mut self, text: &[u8]) -> Result<bool, AllocError>
         ensures value { IfOk result (λ added. added ≡ not (were_read self.old)) }
         ensures lines { were_read self.old ≡ false → OnOk result
@@ -46,8 +45,8 @@ impl Settings {
         Ok(true)
     }
 
-    /// Makes settings of the lines, the first time. It fails with `InvalidArgument` if the lines
-    /// set no such settings; otherwise with `Memory`.
+    /// Makes the settings of the lines, at the first call. It fails with `InvalidArgument` if the
+    /// lines are no valid settings, and otherwise with `Memory`.
     pub(crate) fn read(&mut self, alloc: Global) -> Result<(), Fault>
         ensures ok { OnOk result (were_read self.new ≡ true) }
         ensures value { self.old.config ≡ None → OnOk result
@@ -74,7 +73,7 @@ impl Settings {
     }
 }
 
-/// The text that a line sets, if it does.
+/// The text that a line sets; `None` for any other line.
 pub(crate) fn text_set(line: &[u8]) -> Option<&[u8]>
     ensures value { option_map (λ text. text.now) result ≡ text_set line.now }
 {
@@ -82,7 +81,7 @@ pub(crate) fn text_set(line: &[u8]) -> Option<&[u8]>
     if text.is_empty() { None } else { Some(text) }
 }
 
-// The program's own settings, with what the lines set.
+// The program's own settings, with the keys of the lines.
 fn read_lines(alloc: Global, lines: &[u8]) -> Result<Config, Fault>
     ensures value { IfOk result (SetsOwn lines.now) }
     ensures cause { IfErr result (IsSetRefusal lines.now) }

@@ -1,4 +1,4 @@
-//! Openings of a few files that are broken, or of which a call fails.
+//! Openings of a few broken files, and openings in which one call fails.
 
 use crate::noise::{wrong_byte, wrong_length};
 use crate::openings::tell;

@@ -1,6 +1,6 @@
-//! What a crash may leave of a folder of the operating system. After each of some puts the log's
-//! bytes are copied as a crash could leave them, and an engine opens the copy: it finds every key
-//! that a sync covers, and no key after a gap.
+//! Crashes of a folder of the operating system. After each of some puts the log's bytes are copied
+//! as a crash could leave them, and an engine opens the copy. It finds every key that a sync
+//! covers, and no key after a gap.
 
 use raft_disk::DiskFileSystem;
 use raft_env::FileSystem;
@@ -15,14 +15,14 @@ const GROUP: u64 = 1;
 
 const LOG: &str = "0000000000000001.raftlog";
 
-/// How many bytes of the log are copied: its records, and a part of the zeros after them.
+/// The number of bytes of the log that are copied: its records, and some of the zeros after them.
 const LOG_LEN: usize = 1024;
 
-/// Whether each put is synced.
+/// Whether each put has a sync.
 const PUTS: [bool; 6] = [true, false, true, false, false, true];
 
-/// How many of the bytes that changed since the last sync a crash leaves; the others are as they were then, or this
-/// where there was none.
+/// How many of the bytes that changed since the last sync a crash keeps. The others have their old
+/// value, or this one if they had none.
 const TORN: [(usize, u8); 6] = [
     (usize::MAX, 0),
     (0, 0),
@@ -32,7 +32,7 @@ const TORN: [(usize, u8); 6] = [
     (60, 0),
 ];
 
-/// How far a log is written: the keys from 0 on that were put, and those that a sync covers.
+/// The number of keys that were put, from key 0 on, and of those that a sync covers.
 #[derive(Clone, Copy)]
 struct Reached {
     put: u64,
@@ -67,7 +67,7 @@ fn has<F: FileSystem>(alloc: Global, engine: &Engine<F>, number: u64) -> bool {
     }
 }
 
-// How many keys there are from 0 on, or nothing if there is one after a gap.
+// The number of keys from key 0 on; `None` if a key exists after a gap.
 fn standing<F: FileSystem>(alloc: Global, engine: &Engine<F>) -> Option<u64> {
     let mut standing = 0;
     for number in 0..PUTS.len() as u64 {
@@ -111,7 +111,7 @@ fn log_bytes(rt: &HostRuntime, folder: &str) -> Option<Vec<u8>> {
     Some(bytes)
 }
 
-/// What the log's bytes were at the last sync, and are after a put.
+/// The log's bytes at the last sync and after a put.
 #[derive(Drop)]
 struct Moment {
     synced: Vec<u8>,
@@ -119,7 +119,7 @@ struct Moment {
     reached: Reached,
 }
 
-/// What an engine has seen: the moments after its puts, and how many keys there are then.
+/// The moments after an engine's puts, and the number of keys that it then holds.
 #[derive(Drop)]
 struct Seen {
     moments: Vec<Moment>,
@@ -138,7 +138,7 @@ impl Seen {
         }
     }
 
-    // Notes a put after which the log has these bytes.
+    // Notes a put and the log's bytes after it.
     fn note(&mut self, alloc: Global, now: Vec<u8>, sync: bool) -> Result<(), AllocError> {
         self.reached.put = self.reached.put.saturating_add(1);
         if sync {
@@ -155,7 +155,7 @@ impl Seen {
         Ok(())
     }
 
-    // Notes what the log has: whether that could be read.
+    // Notes the log's bytes. Returns whether they could be read.
     fn look(&mut self, rt: HostRuntime, folder: &str, sync: bool) -> bool {
         match log_bytes(&rt, folder) {
             Some(now) => self.note(rt.alloc(), now, sync).is_ok(),
@@ -164,7 +164,7 @@ impl Seen {
     }
 }
 
-// Puts keys, synced where that is asked, into a log in this folder: whether each is put.
+// Puts keys into a log in this folder, each with or without a sync. Returns whether all succeed.
 fn see<F: FileSystem>(
     rt: HostRuntime,
     folder: &str,
@@ -199,7 +199,7 @@ fn seen_over<F: FileSystem + Drop>(
     }
 }
 
-// The one call at a real folder, which is dear to prove.
+// The only call on a real folder, since such a call takes long to prove.
 fn seen_in(rt: HostRuntime, folder: &str, puts: &[bool], seen: &mut Seen) -> bool {
     match DiskFileSystem::open(rt, folder) {
         Ok(files) => seen_over(rt, folder, files, puts, seen),
@@ -216,7 +216,7 @@ fn standing_in(rt: HostRuntime, folder: &str) -> Option<u64> {
     }
 }
 
-// How many keys an engine finds in a folder, if a second one finds as many.
+// The number of keys that an engine finds in a folder, if a second one finds the same number.
 fn standing_twice(rt: HostRuntime, folder: &str) -> Option<u64> {
     let first = standing_in(rt, folder)?;
     let second = standing_in(rt, folder)?;
@@ -229,7 +229,7 @@ fn store_log(rt: HostRuntime, left: &str, bytes: &[u8]) -> Option<()> {
     fs::write(&rt, log.as_str(), bytes).ok()
 }
 
-// How many keys engines find in a folder with this log.
+// The number of keys that engines find in a folder with these bytes of the log.
 fn found(rt: HostRuntime, left: &str, bytes: &[u8]) -> Option<u64> {
     store_log(rt, left, bytes)?;
     let found = standing_twice(rt, left);
@@ -244,7 +244,7 @@ fn is_right(reached: Reached, found: Option<u64>) -> bool {
     }
 }
 
-// Tries each of the crashes: how many were wrong.
+// The number of crashes after which the wrong keys are found.
 fn wrong_crashes(rt: HostRuntime, left: &str, synced: &[u8], moment: &Moment) -> Option<u64> {
     let mut wrong = 0;
     for (kept, fill) in &TORN {
@@ -256,7 +256,7 @@ fn wrong_crashes(rt: HostRuntime, left: &str, synced: &[u8], moment: &Moment) ->
     Some(wrong)
 }
 
-/// Crashes that were wrong, and those that are if the syncs don't count.
+/// The number of wrong crashes, and the number after the last put if synced bytes may be lost too.
 #[derive(Clone, Copy)]
 struct Wrong {
     counted: u64,

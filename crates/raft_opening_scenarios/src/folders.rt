@@ -1,10 +1,10 @@
-//! Folders that are opened in order and by workers, with the same result.
+//! Folders for openings in order and by workers, which must have the same result.
 
 use crate::stored::{HEADER_2, Stored};
 use raft_test_rows::{Change, Plan, Sequence, plans_in};
 
-/// Of each value of 1 KB a log file is full: eight files of the Append queue, and, once the first ones are rewritten, two
-/// of the Rewrite queue.
+/// A log file is full with each value of 1 KB: eight files of the Append queue, and two of the
+/// Rewrite queue once the first ones are rewritten.
 static MANY: [Plan; 10] = [
     Plan::Write(
         &[
@@ -61,7 +61,7 @@ pub(crate) const LOG_8: &str = "raft/0000000000000008.raftlog";
 
 const REWRITE_1: &str = "raft/0000000000000001.rewrite";
 
-// Records of entries without bytes in group 1, by Python's struct and zlib.
+// Records of entries without bytes in group 1, made by Python's struct and zlib.
 
 /// Entries 1..=10, in file 1.
 const ONE_TO_TEN: &[u8] =
@@ -89,32 +89,34 @@ static HOLED: [Stored; 2] = [
     (LOG_2, &[HEADER_2, FIVE_AND_THREE]),
 ];
 
-/// Operations.
+/// The operations that fill a folder.
 #[derive(Clone, Copy)]
 pub(crate) enum Script {
     Of(Sequence),
     Many,
 }
 
-/// Files, of which each is a chunk of its own. The newer one has a compaction between entries, or entries after a hole and
-/// others before them.
+/// Two files, each a chunk of its own. The newer one has a compaction between entries, or entries
+/// after a hole and others before them.
 #[derive(Clone, Copy)]
 pub(crate) enum Chunks {
     Compacted,
     Holed,
 }
 
-/// What fills a folder: operations, of which none is done from a change on, or files.
+/// The contents of a folder: files after operations, with all changes from the nth on failing, or
+/// given files.
 #[derive(Clone, Copy)]
 pub(crate) enum Filling {
     Done(Script, u64),
     Stored(Chunks),
 }
 
-/// The eight files and two.
+/// All ten files.
 pub(crate) const WHOLE: Filling = Filling::Done(Script::Many, u64::MAX);
 
-/// The operations: tables are named by functions of their own, since a proof has all of a table at each step.
+/// The operations. Each table is named by its own function, since a proof has the whole table at
+/// each step.
 pub(crate) fn plans_of(script: Script) -> &'static [Plan] {
     match script {
         Script::Of(sequence) => plans_in(sequence),
@@ -129,7 +131,7 @@ pub(crate) fn files_of(chunks: Chunks) -> &'static [Stored] {
     }
 }
 
-/// The indexes of the two entries that group 1 then has.
+/// The indexes of the two entries that remain in group 1.
 pub(crate) fn indexes_of(chunks: Chunks) -> [u64; 2] {
     match chunks {
         Chunks::Compacted => [9, 10],
@@ -137,8 +139,8 @@ pub(crate) fn indexes_of(chunks: Chunks) -> [u64; 2] {
     }
 }
 
-/// A name, what fills the folder, the paths and places of bytes that are broken then, and whether the files crash in three
-/// ways, or all their bytes are left.
+/// A name, the contents of the folder, the paths and places of bytes that are then broken, and
+/// whether the files crash in three ways or keep all bytes.
 pub(crate) struct Folder(
     pub(crate) &'static str,
     pub(crate) Filling,
@@ -219,7 +221,7 @@ static FOLDERS: [Folder; 22] = [
         &[],
         true,
     ),
-    // The same files with bytes broken.
+    // The same files with broken bytes.
     Folder("none", WHOLE, &[], false),
     Folder("a header of the first file", WHOLE, &[(LOG_1, 3)], false),
     Folder("entries of the first file", WHOLE, &[(LOG_1, 86)], false),
@@ -238,8 +240,8 @@ static FOLDERS: [Folder; 22] = [
         &[(LOG_1, 600), (LOG_8, 3), (REWRITE_1, 3)],
         false,
     ),
-    // What the newer of two files leaves of the older one: a compaction between entries; entries after a hole, and
-    // others before them.
+    // The newer of two files removes entries of the older one: by a compaction between entries, or
+    // by entries after a hole and others before them.
     Folder(
         "a compaction between entries",
         Filling::Stored(Chunks::Compacted),

@@ -1,5 +1,5 @@
-//! Tests of openings: by workers beside openings in order, of broken files, with failing calls, and
-//! of a real folder after crashes.
+//! Tests of openings: by workers and in order with the same result, of broken files, with failing
+//! calls, and of a real folder after crashes.
 #![tactic(auto)]
 
 #[cfg(test)]

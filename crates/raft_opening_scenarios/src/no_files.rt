@@ -1,4 +1,4 @@
-//! Openings by workers over files in memory, of which none was there, with listeners and without.
+//! Openings by workers without log files, in memory, with listeners and without.
 
 use raft_env::FileSystem;
 use raft_listeners::NoListeners;

@@ -1,4 +1,4 @@
-//! What an opening makes of files with one byte broken, and of files that no engine wrote.
+//! Openings of files with one broken byte, and of files that no engine wrote.
 
 ghost use Rattle.std.specs.Prelude.{◌<◌};
 
@@ -9,15 +9,14 @@ use raft_rows::store;
 use raft_test_rows::{EMPTY, Faulty, Held, RecoveryMode, State};
 use std::alloc::{AllocError, Global};
 
-/// What is found without a byte's file.
+/// The state without the file of the broken byte.
 const WITHOUT: [State; 3] = [
     State { a: 0, ..ALL },
     State { b: 0, ..ALL },
     State { c: 0, ..ALL },
 ];
 
-/// The first place of a file, and the place behind the last one, at which another byte breaks the
-/// file, or doesn't.
+/// The first place, and the one after the last, at which another byte breaks a file, or doesn't.
 struct Places {
     name: &'static str,
     first: usize,
@@ -38,7 +37,7 @@ static PLACES: [Places; 4] = [
         end: 61,
         is_broken: true,
     },
-    // A record that can be read stands there whatever the alignment.
+    // A record there can be read with any alignment.
     Places {
         name: "its alignment",
         first: 61,
@@ -57,7 +56,7 @@ fn all_places() -> &'static [Places] {
     PLACES.as_slice()
 }
 
-// What is found of three files, the one of this place in the list broken.
+// The state if the file at this place of the list is broken.
 fn found_without(mode: RecoveryMode, file: usize) -> Result<State, u8>
     requires { file < 3 }
 {
@@ -101,7 +100,7 @@ fn is_broken_so<F: Faulty>(
     is_changed && held.open(alloc, mode) && held.has_come_to(&wanted)
 }
 
-/// The places of which one breaks another file than it should, and that place.
+/// The first row and place at which a broken byte gives another state than expected.
 pub(crate) fn wrong_byte<F: Faulty>(
     alloc: Global,
     held: &mut Held<F>,
@@ -120,11 +119,11 @@ pub(crate) fn wrong_byte<F: Faulty>(
     None
 }
 
-/// Files of bytes that no engine wrote, and what openings of them find.
+/// Files of bytes that no engine wrote, and the states that openings of them find.
 struct Noise {
     name: &'static str,
     paths: &'static [&'static str],
-    /// What each begins with.
+    /// The first bytes of each file.
     front: &'static [u8],
     found: &'static [(RecoveryMode, Result<State, u8>)],
 }
@@ -140,7 +139,7 @@ const TWO: &[&str] = &[
     "raft/0000000000000008.raftlog",
 ];
 
-/// A last file is cut, and one before it too in the mode that tolerates that.
+/// The last file of a queue is cut, and an earlier one too in the mode that tolerates that.
 static NOISE: [Noise; 4] = [
     Noise {
         name: "one file of each queue",
@@ -168,15 +167,15 @@ static NOISE: [Noise; 4] = [
     },
 ];
 
-// Tables are named by functions, since a proof has all of a table at each step.
+// Each table is named by its own function, since a proof has the whole table at each step.
 fn all_noise() -> &'static [Noise] {
     NOISE.as_slice()
 }
 
-/// How many files of each kind, each longer than the one before.
+/// The number of files of each kind; each is longer than the one before.
 const LENGTHS: usize = 60;
 
-// Bytes of a generator (Knuth's), from a state on.
+// Bytes of Knuth's generator from this state on.
 fn bytes_from(alloc: Global, seed: u64, len: usize) -> Result<Vec<u8>, AllocError> {
     let mut bytes = Vec::new(alloc);
     let mut state = seed;
@@ -204,7 +203,8 @@ fn store_noise<F: FileSystem>(
     Ok(())
 }
 
-// Whether an opening comes to what is wanted, and, if it finds a state, the next one after a close.
+// Whether an opening has the wanted result. If it finds a state, the opening after a close must
+// find it too.
 fn is_found<F: Faulty>(
     alloc: Global,
     held: &mut Held<F>,
@@ -226,7 +226,7 @@ fn is_found<F: Faulty>(
     is_opened
 }
 
-/// The files of which an opening finds something else, and how long their bytes are.
+/// The first files for which an opening finds another state, and the length of their bytes.
 pub(crate) fn wrong_length<F: Faulty>(
     alloc: Global,
     held: &mut Held<F>,

@@ -1,4 +1,4 @@
-//! Openings by workers of files in memory, and what the files are then.
+//! Openings by workers of files in memory, and comparisons of their results.
 
 use raft_env::{FileSystem, FsFault, Permission};
 use raft_test_rows::{Config, Engine, Faulty, Held, Plan, RecoveryMode, ops_of, run, settings_in};
@@ -14,7 +14,7 @@ pub(crate) const ANY: RecoveryMode = RecoveryMode::TolerateAnyCorruption;
 
 pub(crate) const MODES: [RecoveryMode; 3] = [ABSOLUTE, TAIL, ANY];
 
-/// The row and the place in it at which something is wrong, if there is one.
+/// Fails the test with the row and the place in it that are wrong, if there are any.
 pub(crate) fn tell(wrong: Option<(&'static str, usize)>) -> Result<(), Fail> {
     match wrong {
         None => Ok(()),
@@ -22,7 +22,7 @@ pub(crate) fn tell(wrong: Option<(&'static str, usize)>) -> Result<(), Fail> {
     }
 }
 
-// The log's settings, with this mode and so many threads.
+// The log's settings with this mode and number of threads.
 fn settings_of(alloc: Global, mode: RecoveryMode, workers: usize) -> Result<Config, AllocError> {
     let mut config = settings_in(alloc, mode)?;
     config.recovery_threads = workers;
@@ -43,7 +43,7 @@ fn open_with<R: Threads + Sync, F: Faulty>(
     }
 }
 
-/// Opens the files by workers: whether there was memory for the settings.
+/// Opens the files by workers. Returns whether there was memory for the settings.
 pub(crate) fn open_by_workers<R: Threads + Sync, F: Faulty>(
     rt: &R,
     alloc: Global,
@@ -100,7 +100,7 @@ fn are_same_files<F: FileSystem>(
     Ok(are_same)
 }
 
-/// Whether both have the same files, byte for byte. Engines give theirs up.
+/// Whether both have the same files, byte for byte. Engines give up theirs first.
 pub(crate) fn have_same_files<F: Faulty>(
     alloc: Global,
     one: &mut Held<F>,
@@ -117,7 +117,7 @@ pub(crate) fn have_same_files<F: Faulty>(
     }
 }
 
-/// Whether both openings found the same, or failed with the same fault.
+/// Whether both openings found the same state, or failed with the same fault.
 pub(crate) fn have_same_answers<F: Faulty>(one: &mut Held<F>, other: &mut Held<F>) -> bool {
     match one {
         Held::Engine(one) => match other {
@@ -132,7 +132,7 @@ pub(crate) fn have_same_answers<F: Faulty>(one: &mut Held<F>, other: &mut Held<F
     }
 }
 
-/// Writes a byte at this place of a file that none of the tests' files has there.
+/// Writes a byte at this place of a file. None of the tests' files has this byte there.
 pub(crate) fn break_byte<F: FileSystem>(
     files: &mut F,
     path: &str,
@@ -150,7 +150,8 @@ fn are_run<F: FileSystem>(alloc: Global, engine: &mut Engine<F>, plans: &[Plan])
     }
 }
 
-/// Does the operations at an engine, if the files can be opened, which gives them up then: whether there was memory.
+/// Runs the operations on an engine over the files, which then gives them up. Returns whether
+/// there was memory.
 pub(crate) fn are_done<F: Faulty>(alloc: Global, held: &mut Held<F>, plans: &[Plan]) -> bool {
     let is_read = held.open(alloc, TAIL);
     let are_run = match held {

@@ -1,4 +1,5 @@
-//! Openings of several log files that stop, or in which one call fails, and the next one.
+//! Openings of several log files that are stopped, or in which one call fails, and the next
+//! opening.
 
 use crate::openings::{ABSOLUTE, ANY, TAIL};
 use crate::stored::{
@@ -10,7 +11,7 @@ use raft_records::Fault;
 use raft_test_rows::{Failing, Faulty, Held, Left, RecoveryMode, State};
 use std::alloc::Global;
 
-/// Three files, each of which an opening changes in the mode that takes all.
+/// Three files. An opening in the mode that tolerates any damage changes each of them.
 const BROKEN: &[Stored] = &[
     (
         "raft/0000000000000001.raftlog",
@@ -29,8 +30,8 @@ fn broken_files() -> &'static [Stored] {
 
 const MAX_CALLS: u64 = 20;
 
-/// A name; each nth call of a sort fails, or for none each call that changes files is the last, in
-/// openings in this mode; and how many there are at the least.
+/// A name; a sort of calls of which each nth one fails (`None`: each call that changes files, and
+/// all after it); the mode of the openings; and the least number of such calls.
 struct Calls(&'static str, Option<FsCall>, RecoveryMode, u64);
 
 const WITHOUT_2: State = State { b: 0, ..ALL };
@@ -42,7 +43,7 @@ static READS: [Calls; 3] = [
     Calls("read", Some(FsCall::Read), ANY, 3),
 ];
 
-/// The calls of an opening, but for those that no opening of files makes. Each file is cut and
+/// The calls of an opening, except those that no opening of files makes. Each file is cut and
 /// synced, and one gets a header.
 static CALLS: [Calls; 11] = [
     Calls("changes", None, ANY, 7),
@@ -58,7 +59,7 @@ static CALLS: [Calls; 11] = [
     Calls("read", Some(FsCall::Read), ANY, 0),
 ];
 
-/// What a crash leaves after the opening of broken files; or none, of whole ones.
+/// What a crash leaves after the opening of broken files; `None` for whole files.
 static WHOLE: [Option<Left>; 1] = [None];
 
 static LEFT: [Option<Left>; 4] = [
@@ -75,8 +76,8 @@ fn is_refusal(fault: &Fault) -> bool {
     }
 }
 
-// An opening of whole files that a call fails changes nothing, and the next one finds all: whether it
-// failed, or nothing where that is wrong.
+// Opens whole files with a failing call: the opening changes nothing, and the next one finds
+// everything. Returns whether the opening failed; `None` if something is wrong.
 fn cuts_nothing<F: Faulty>(
     alloc: Global,
     held: &mut Held<F>,
@@ -99,8 +100,8 @@ fn cuts_nothing<F: Faulty>(
     }
 }
 
-// After a crash of broken files, an opening with failing calls and another crash the rest is found:
-// whether a call failed, or nothing where that is wrong.
+// Crashes broken files, opens them with failing calls, and crashes them again: the rest is then
+// found. Returns whether a call failed; `None` if something is wrong.
 fn finds_rest<F: Faulty>(
     alloc: Global,
     held: &mut Held<F>,
@@ -128,7 +129,7 @@ fn failing_of(calls: &Calls, nth: u64) -> Failing {
     }
 }
 
-// The last call that failed, or nothing where something is wrong.
+// The number of the last call that failed; `None` if something is wrong.
 fn last_failed<F: Faulty>(
     alloc: Global,
     held: &mut Held<F>,
@@ -167,8 +168,7 @@ fn wrong_in<F: Faulty>(
     None
 }
 
-/// The first calls, and the place of what a crash leaves, at which something is wrong, or that are
-/// fewer or more.
+/// The first calls, and the place of the crash, with a wrong result or a wrong number of calls.
 pub(crate) fn wrong_call<F: Faulty>(
     alloc: Global,
     held: &mut Held<F>,

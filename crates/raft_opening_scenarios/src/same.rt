@@ -1,4 +1,4 @@
-//! Workers find, cut and refuse what an opening in order does.
+//! Openings by workers find, cut and refuse the same as openings in order.
 
 use crate::folders::{Filling, Folder, LOG_8, WHOLE, all_folders, files_of, indexes_of, plans_of};
 use crate::openings::{
@@ -13,18 +13,18 @@ use std::alloc::Global;
 use std::test::Fail;
 use std::thread::Threads;
 
-/// So many workers read the files.
+/// The numbers of workers that read the files.
 const WORKERS: [usize; 4] = [1, 2, 3, 8];
 
 /// More reads than an opening makes.
 const MAX_READS: u64 = 60;
 
-/// What a crash may leave of each log file.
+/// What a crash leaves of each log file.
 static LEFTS: [Left; 3] = [Left::All, Left::Synced, Left::Torn(7, 255)];
 
 static ALL: [Left; 1] = [Left::All];
 
-/// A folder, and two copies of it, of which the first is opened in order and the second by workers.
+/// A folder and two copies of it: the first is opened in order, the second by workers.
 #[derive(Drop)]
 struct Trio<F: FileSystem> {
     filled: Held<F>,
@@ -39,13 +39,13 @@ impl<F: Faulty> Trio<F> {
         self.opened.into_files();
     }
 
-    // Makes both copies as a crash leaves them: whether there was memory.
+    // Makes both copies as the files after a crash. Returns whether there was memory.
     fn copy(&mut self, alloc: Global, left: &Left) -> bool {
         self.wanted.hold_left(alloc, &mut self.filled, left)
             && self.opened.hold_left(alloc, &mut self.filled, left)
     }
 
-    // Whether both openings found the same and left the same files.
+    // Whether both openings found the same state and left the same files.
     fn are_alike(&mut self, alloc: Global) -> bool {
         have_same_answers(&mut self.wanted, &mut self.opened)
             && have_same_files(alloc, &mut self.wanted, &mut self.opened)
@@ -75,7 +75,7 @@ fn stores<F: Faulty>(held: &mut Held<F>, stored: &[Stored]) -> bool {
     }
 }
 
-// Fills new files: whether there was memory.
+// Fills new files. Returns whether there was memory.
 fn fills<F: Faulty>(alloc: Global, held: &mut Held<F>, filling: Filling) -> bool {
     held.renew(alloc);
     match filling {
@@ -86,7 +86,7 @@ fn fills<F: Faulty>(alloc: Global, held: &mut Held<F>, filling: Filling) -> bool
     }
 }
 
-// Whether workers open copies as an opening in order does.
+// Whether workers open the copy with the same result as an opening in order.
 fn opens_alike<R: Threads + Sync, F: Faulty>(
     rt: &R,
     alloc: Global,
@@ -101,7 +101,7 @@ fn opens_alike<R: Threads + Sync, F: Faulty>(
         && trio.are_alike(alloc)
 }
 
-// How many workers open copies otherwise in one of the modes.
+// The number of workers with another result in one of the modes.
 fn wrong_workers<R: Threads + Sync, F: Faulty>(
     rt: &R,
     alloc: Global,
@@ -141,7 +141,7 @@ fn shows<F: FileSystem>(engine: &mut Engine<F>, indexes: &[u64]) -> bool {
     }
 }
 
-// Whether an opening in order finds these entries alone.
+// Whether an opening in order finds exactly these entries.
 fn finds<F: Faulty>(
     alloc: Global,
     trio: &mut Trio<F>,
@@ -164,7 +164,7 @@ fn finds_in_each<F: Faulty>(alloc: Global, trio: &mut Trio<F>, indexes: &[u64]) 
     true
 }
 
-// .. in each mode, if the files were stored.
+// The same in each mode, for stored files.
 fn finds_stored<F: Faulty>(alloc: Global, trio: &mut Trio<F>, filling: Filling) -> bool {
     match filling {
         Filling::Done(_, _) => true,
@@ -200,7 +200,7 @@ fn wrong_in<R: Threads + Sync, F: Faulty>(
     None
 }
 
-// Whether the opening fails by a read, if it fails.
+// Whether the opening's fault is the failed read's; `None` if it succeeded.
 fn is_refused<F: Faulty>(held: &Held<F>) -> Option<bool> {
     match held.fault()? {
         Fault::Io(IoKind::Other, _) => Some(true),
@@ -208,8 +208,8 @@ fn is_refused<F: Faulty>(held: &Held<F>) -> Option<bool> {
     }
 }
 
-// With the nth read failing: whether there were so many, or nothing if the opening doesn't fail by it or changes a
-// file.
+// Lets the nth read fail. Returns whether there were so many reads; `None` if the opening doesn't
+// fail with this fault, or changes a file.
 fn refuse_read<R: Threads + Sync, F: Faulty>(
     rt: &R,
     alloc: Global,
@@ -238,7 +238,7 @@ fn refuse_read<R: Threads + Sync, F: Faulty>(
     }
 }
 
-// The first read of which something is wrong, up to one that doesn't come.
+// The number of the first read with a wrong result, before one that isn't made.
 fn wrong_read<R: Threads + Sync, F: Faulty>(
     rt: &R,
     alloc: Global,
@@ -255,7 +255,8 @@ fn wrong_read<R: Threads + Sync, F: Faulty>(
     Some(MAX_READS)
 }
 
-// How many workers go on after a failing read, or change a file. The last file would be cut.
+// The number of workers that continue after a failed read, or change a file. The last file has a
+// byte to cut.
 fn wrong_reads<R: Threads + Sync, F: Faulty>(
     rt: &R,
     alloc: Global,

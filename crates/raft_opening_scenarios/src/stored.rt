@@ -1,4 +1,4 @@
-//! Three log files as their bytes, part by part.
+//! Three log files as parts of bytes.
 
 use crate::openings::bytes_of;
 use raft_env::{FileSystem, FsFault};
@@ -13,8 +13,8 @@ pub(crate) const HEADER_2: &[u8] =
 pub(crate) const HEADER_MOVED: &[u8] =
     b"AFT-LOG-FILE-HEADER-9986AB3E47F320B394C8E84916EB0ED5\0\0\0\0\0\0\0\x02\0\0\0\0\0\0\0\0";
 
-// The records below were made by Python's struct and zlib: one put each, for the file of that number
-// in version 2.
+// The records below were made by Python's struct and zlib: one put each, for the file of that
+// number in version 2.
 pub(crate) const PUT_1: &[u8] =
     b"\x00\x00\x00\x00\x00\x00\x1c\x00\x00\x00\x00\x00\x00\x00\x00\x10\x01\x01\x03\x01\x01\x61\x01\x01\xf9\x48\xbe\x2b";
 
@@ -24,11 +24,11 @@ pub(crate) const PUT_2: &[u8] =
 pub(crate) const PUT_3: &[u8] =
     b"\x00\x00\x00\x00\x00\x00\x1c\x00\x00\x00\x00\x00\x00\x00\x00\x10\x01\x02\x03\x01\x01\x63\x01\x03\x24\xe7\xdc\xf7";
 
-/// The put of file 2, but for a bit of its value.
+/// The put of file 2 with one wrong bit in its value.
 pub(crate) const BROKEN_2: &[u8] =
     b"\x00\x00\x00\x00\x00\x00\x1c\x00\x00\x00\x00\x00\x00\x00\x00\x10\x01\x01\x03\x01\x01\x62\x01\x03\x19\xa7\xf1\xb0";
 
-/// A file's path, and its bytes part by part.
+/// A file's path, and the parts of its bytes.
 pub(crate) type Stored = (&'static str, &'static [&'static [u8]]);
 
 /// Files 1, 2 and 3, one put each.
@@ -38,12 +38,12 @@ const THREE: &[Stored] = &[
     ("raft/0000000000000003.raftlog", &[HEADER_2, PUT_3]),
 ];
 
-/// .. by a function, since a proof has all of a table at each step.
+/// The table is named by its own function, since a proof has the whole table at each step.
 pub(crate) fn three_files() -> &'static [Stored] {
     THREE
 }
 
-/// What an opening finds in them.
+/// The state of these files.
 pub(crate) const ALL: State = State {
     a: 1,
     b: 2,
@@ -86,7 +86,7 @@ fn are_stored<F: FileSystem>(
     }
 }
 
-/// Makes these files, and the folder raft: whether that is done.
+/// Makes these files and the folder `raft`. Returns whether that succeeded.
 pub(crate) fn are_stored_in_raft<F: FileSystem>(files: &mut F, stored: &[Stored]) -> bool {
     for (path, parts) in stored {
         if store_in(files, "raft", path, parts).is_err() {
@@ -104,7 +104,8 @@ fn store_all<F: FileSystem>(files: &mut F, stored: &[Stored]) -> Result<usize, F
     Ok(files.list("raft")?.len())
 }
 
-/// Makes these files, and a folder beside them: how many the log's folder has then, if it is done.
+/// Makes these files, and a folder beside them. Returns the number of files and folders in the
+/// log's folder.
 pub(crate) fn make<F: Faulty>(held: &mut Held<F>, stored: &[Stored]) -> Option<usize> {
     match store_all(held.files()?, stored) {
         Ok(count) => Some(count),
@@ -112,7 +113,7 @@ pub(crate) fn make<F: Faulty>(held: &mut Held<F>, stored: &[Stored]) -> Option<u
     }
 }
 
-/// Whether the files have these bytes, and are so many in the log's folder.
+/// Whether the files have these bytes, and the log's folder has this number of files and folders.
 pub(crate) fn have<F: Faulty>(
     alloc: Global,
     held: &mut Held<F>,

@@ -1,4 +1,4 @@
-//! Entries for each group of a range and each index of another, and how such entries are read again.
+//! Lines that append entries for ranges of groups and indexes, and that read such entries again.
 
 use crate::batch::{add_raw, add_texts};
 use crate::line::Line;
@@ -8,7 +8,7 @@ use raft_records::{Fault, LogBatch, LogQueue};
 use raft_test_rows::{Engine, TextEntry};
 use std::alloc::{AllocError, Global};
 
-/// The key of the message.
+/// The key of the group's message.
 const LAST_INDEX: &str = "last_index";
 
 fn write_raw<F: FileSystem>(
@@ -24,7 +24,7 @@ fn write_raw<F: FileSystem>(
     Ok(())
 }
 
-/// Writes an entry with these bytes for each group and index, in a batch of its own.
+/// Writes an entry with these bytes for each group and index, each in its own batch.
 pub(crate) fn write_each<F: FileSystem>(
     alloc: Global,
     engine: &mut Engine<F>,
@@ -40,18 +40,18 @@ pub(crate) fn write_each<F: FileSystem>(
     Ok(())
 }
 
-/// Entries of text with a message that has the last index, as raft-engine's tests use them: for each
-/// group of a range and each index of another.
+/// Entries of text for ranges of groups and indexes, and a message with the last index in each
+/// group, as raft-engine's tests write them.
 #[derive(Clone, Copy)]
 pub(crate) struct Appends {
     pub(crate) groups: (u64, u64),
     pub(crate) indexes: (u64, u64),
-    /// Each entry is in a batch of its own, and not with the others of its group.
+    /// Whether each entry is in a batch of its own.
     pub(crate) is_each: bool,
 }
 
 impl Appends {
-    /// Writes a batch for each group, or for each group and index, with a sync.
+    /// Writes a batch for each group, or for each group and index. Each write has a sync.
     pub(crate) fn write<F: FileSystem>(
         self,
         alloc: Global,
@@ -106,7 +106,7 @@ fn add_last_index(
     batch.put_message(group, key, &TextEntry { index, word })
 }
 
-// Whether the indexes follow one another from the first one on, and all words are the same.
+// Whether the indexes are consecutive from `first` on, and each entry has this word.
 fn are_alike(entries: &[TextEntry], first: u64, word: &[u8]) -> bool {
     for (place, entry) in entries.iter().enumerate() {
         let index = first.saturating_add(place as u64);
@@ -126,7 +126,7 @@ fn is_same(copied: Option<&TextEntry>, entry: &TextEntry) -> bool {
     }
 }
 
-// Whether `get_entry` and `load_entry` find what was fetched.
+// Whether `get_entry` and `load_entry` return the fetched entry.
 fn is_found<F: FileSystem>(
     alloc: Global,
     engine: &mut Engine<F>,
@@ -141,7 +141,7 @@ fn is_found<F: FileSystem>(
     }
 }
 
-// In which queue an entry is, if it is found.
+// The queue of an entry's file, if the entry is found.
 fn queue_of<F: FileSystem>(
     engine: &mut Engine<F>,
     group: u64,
@@ -156,7 +156,7 @@ fn queue_of<F: FileSystem>(
     }
 }
 
-/// In which queues entries are, and whether all are found.
+/// The queues of entries' files, and whether all entries were found.
 #[derive(Clone, Copy)]
 struct Queues {
     in_append: bool,
@@ -206,7 +206,7 @@ fn queues_of<F: FileSystem>(
     Ok(queues)
 }
 
-// The index of a group's message.
+// The index in a group's message.
 fn last_index_of<F: FileSystem>(engine: &Engine<F>, group: u64) -> Result<Option<u64>, Fault> {
     match engine.get_message::<TextEntry>(group, LAST_INDEX.as_bytes())? {
         Some(message) => Ok(Some(message.index)),
@@ -226,7 +226,7 @@ fn fetched<F: FileSystem>(
     Ok(entries)
 }
 
-// What is said of all entries of a group.
+// Prints a group's entries.
 fn say(
     line: &mut Line,
     entries: &[TextEntry],
@@ -271,8 +271,8 @@ fn look<F: FileSystem>(
     Ok(())
 }
 
-/// All entries of a group, fetched, got one by one and lent: the first and the last index, the word
-/// of each, the queues in which they are, and the index in the group's message.
+/// Fetches all entries of a group, gets each one, and borrows each one. Prints the first and the
+/// last index, the word, the queues of the entries' files, and the index in the group's message.
 pub(crate) fn whole<F: FileSystem>(line: &mut Line, engine: &mut Engine<F>) -> Result<(), Fault> {
     let group = line.number(0);
     match (engine.first_index(group), engine.last_index(group)) {

@@ -1,8 +1,8 @@
-//! What lines ask for.
+//! The requests that lines make.
 
 use raft_test_rows::RecoveryMode;
 
-/// What a line asks for, by what it asks it of.
+/// A request, by the object of which it is made.
 #[derive(Clone, Copy)]
 pub(crate) enum Asked {
     Settings(SettingsLine),
@@ -14,7 +14,7 @@ pub(crate) enum Asked {
     Look(LookLine),
 }
 
-/// The settings of the next opening, or bytes with names.
+/// Sets the settings of the next opening, or names bytes.
 #[derive(Clone, Copy)]
 pub(crate) enum SettingsLine {
     Usual,
@@ -22,7 +22,7 @@ pub(crate) enum SettingsLine {
     Name,
 }
 
-/// Openings, closings, and calls that are to fail.
+/// Opens or closes the log, or lets calls fail.
 #[derive(Clone, Copy)]
 pub(crate) enum LogLine {
     Open(RecoveryMode),
@@ -34,20 +34,20 @@ pub(crate) enum LogLine {
     Stop,
 }
 
-/// What is done with the batch of the next write.
+/// Changes the batch of the next write.
 #[derive(Clone, Copy)]
 pub(crate) enum BatchLine {
     Key(KeyLine),
     Entries(EntriesLine),
     Clean,
     Compact,
-    /// It is the next batch of a group, which asks for a sync or not.
+    /// The batch becomes the next one of a write group; the flag requests a sync.
     Next(bool),
     Flags,
     Drop,
 }
 
-/// What is put at a key.
+/// Puts or deletes a key.
 #[derive(Clone, Copy)]
 pub(crate) enum KeyLine {
     Put,
@@ -63,7 +63,7 @@ pub(crate) enum EntriesLine {
     Plain,
 }
 
-/// Of files in memory, which no engine has.
+/// Reads or changes files in memory that no engine has.
 #[derive(Clone, Copy)]
 pub(crate) enum FilesLine {
     Change(ChangeLine),
@@ -77,7 +77,7 @@ pub(crate) enum FilesLine {
     Agree,
 }
 
-/// What changes files as a log does.
+/// Changes files as a log does.
 #[derive(Clone, Copy)]
 pub(crate) enum ChangeLine {
     Folder,
@@ -86,7 +86,7 @@ pub(crate) enum ChangeLine {
     Cut,
 }
 
-/// What changes them from outside.
+/// Changes files as a crash or another program does.
 #[derive(Clone, Copy)]
 pub(crate) enum UpsetLine {
     Note,
@@ -96,7 +96,7 @@ pub(crate) enum UpsetLine {
     CrashTorn,
 }
 
-/// What is counted at a path: the bytes of a file, or the names in a folder.
+/// Counts at a path: the bytes of a file, or the names in a folder.
 #[derive(Clone, Copy)]
 pub(crate) enum CountLine {
     Bytes,
@@ -104,7 +104,7 @@ pub(crate) enum CountLine {
     Logs,
 }
 
-/// Of which files items are read, and whether their places are.
+/// Prints items: of a file or a folder, of a file, of a folder, or with their places.
 #[derive(Clone, Copy, PartialEq, Eq)]
 pub(crate) enum ItemsLine {
     Any,
@@ -113,7 +113,7 @@ pub(crate) enum ItemsLine {
     Places,
 }
 
-/// Of the program `raftlog`.
+/// Feeds, runs or reads the program `raftlog`.
 #[derive(Clone, Copy)]
 pub(crate) enum ProgramLine {
     Newline,
@@ -121,27 +121,28 @@ pub(crate) enum ProgramLine {
     Serve,
 }
 
-/// A call of an engine.
+/// Calls an engine.
 #[derive(Clone, Copy)]
 pub(crate) enum CallLine {
     Write(WriteLine),
-    /// Of the Append queue's files up to one, what the groups from one on have, within a budget.
+    /// Rewrites the groups from one on that have data in the Append queue's files up to one,
+    /// within a budget.
     RewriteGroups,
     RenewGroups,
-    /// Any other.
+    /// Any other call.
     Op(OpLine),
 }
 
 #[derive(Clone, Copy)]
 pub(crate) enum WriteLine {
-    /// Of the batch, synced where that is asked.
+    /// Writes the batch; the flag requests a sync.
     Batch(bool),
-    /// .. once, by groups with a number each.
+    /// Writes the batch once (`write_once`), with a number for each group.
     Once,
     Group,
-    /// An entry with these bytes for each of some groups and indexes, in a batch of its own.
+    /// Writes an entry with these bytes for each group and index, each in its own batch.
     Each,
-    /// As raft-engine's tests append: whether each entry is in a batch of its own.
+    /// Appends as raft-engine's tests do. The flag gives each entry a batch of its own.
     Append(bool),
 }
 
@@ -159,7 +160,7 @@ pub(crate) enum OpLine {
     Purge,
 }
 
-/// What an engine holds.
+/// Reads an engine.
 #[derive(Clone, Copy)]
 pub(crate) enum LookLine {
     /// All keys and entries.
@@ -170,7 +171,7 @@ pub(crate) enum LookLine {
     Messages(bool),
 }
 
-/// Of one entry, one message, or a group's entries.
+/// Reads an entry, a message, or a group's entries.
 #[derive(Clone, Copy)]
 pub(crate) enum EntryLine {
     Entry,
@@ -181,7 +182,7 @@ pub(crate) enum EntryLine {
     Whole,
 }
 
-/// Of the engine as a whole.
+/// Reads a property of the whole engine.
 #[derive(Clone, Copy)]
 pub(crate) enum WholeLine {
     IsEmpty,

@@ -1,4 +1,4 @@
-//! Lines that put something into the batch of the next write.
+//! Lines that add to the batch of the next write.
 
 use crate::asked::{BatchLine, EntriesLine, KeyLine};
 use crate::line::Line;
@@ -8,14 +8,15 @@ use raft_test_rows::{Outcome, TextEntry};
 use std::alloc::{AllocError, Global};
 use std::mem;
 
-/// The batch of the next write, and the batches of the next group with a flag each.
+/// The batch of the next write, and the batches of the next write group with a flag for each.
 pub(crate) struct Writing {
     pub(crate) batch: LogBatch,
     pub(crate) batches: Vec<LogBatch>,
     pub(crate) syncs: Vec<bool>,
 }
 
-// One call in a proof that drops it; derived, it would be one of each field (docs/DECISIONS.md).
+// One call in each proof that drops it. A derived `Drop` would be one call for each field
+// (docs/DECISIONS.md).
 impl Drop for Writing {
     fn drop(self) {
         let Writing {
@@ -26,7 +27,7 @@ impl Drop for Writing {
     }
 }
 
-/// Entries with the indexes from the first to the last.
+/// Entries of text with the indexes from the first to the last.
 fn text_entries(
     alloc: Global,
     first: u64,
@@ -41,7 +42,7 @@ fn text_entries(
     Ok(entries)
 }
 
-/// Adds entries of a word with the indexes from the first to the last.
+/// Adds entries of one word with the indexes from the first to the last.
 pub(crate) fn add_texts(
     alloc: Global,
     batch: &mut LogBatch,
@@ -72,13 +73,13 @@ pub(crate) fn add_raw(
     batch.add_raw_entries(group, vec![in alloc; entry]?, bytes)
 }
 
-// One entry of these bytes, which may be none, with the index 0.
+// Adds an entry of any bytes, also of none, with the index 0.
 fn add_plain(alloc: Global, batch: &mut LogBatch, group: u64, bytes: Vec<u8>) -> Result<(), Fault> {
     let entries = vec![in alloc; Plain { bytes }]?;
     batch.add_entries::<Plain>(group, &entries)
 }
 
-// What a line puts at a key.
+// Puts a value or a message at a key, or deletes the key.
 fn put(line: &mut Line, batch: &mut LogBatch, asked: KeyLine) -> Result<(), Fault> {
     let (group, index) = line.pair(0);
     let key = line.take(0);
@@ -100,7 +101,7 @@ fn add(line: &mut Line, batch: &mut LogBatch, asked: EntriesLine) -> Result<(), 
     }
 }
 
-// Whether each batch is empty where it was written, and isn't where it was refused.
+// Whether each batch is empty after a successful write, and isn't after a failed one.
 fn are_kept(batches: &[LogBatch], sizes: &[Result<usize, Fault>]) -> bool {
     for (batch, size) in batches.iter().zip(sizes.iter()) {
         if batch.is_empty() != size.is_ok() {
@@ -128,7 +129,7 @@ impl Writing {
         }
     }
 
-    // The batch is the next one of a group, with or without a sync.
+    // Makes the batch the next one of a write group, with or without a sync.
     fn next(&mut self, alloc: Global, sync: bool) -> Result<(), Fault> {
         let batch = mem::replace(&mut self.batch, LogBatch::new(alloc));
         self.batches.push(batch)?;
@@ -162,7 +163,8 @@ impl Writing {
         line.done(changed);
     }
 
-    /// Whether a batch is empty after it was written, and has its items after it was refused.
+    /// Whether the batch is empty after a successful write, and still has its items after a failed
+    /// one.
     pub(crate) fn has_kept(&self, had_items: bool, outcome: &Outcome) -> bool {
         match outcome {
             Outcome::Size(Ok(_)) => self.batch.is_empty(),

@@ -1,4 +1,4 @@
-//! Lines that write to an engine, purge it, or ask it what an operation does.
+//! Lines that write to an engine, purge it, or run another operation on it.
 
 use crate::appends::{Appends, write_each};
 use crate::asked::{CallLine, OpLine, WriteLine};
@@ -9,7 +9,7 @@ use raft_records::Fault;
 use raft_test_rows::{Engine, Op, Outcome, step};
 use std::alloc::{AllocError, Global};
 
-// Groups with a number each; none where a word is no number.
+// The groups with their numbers; `None` if a word is no number.
 fn pairs_of(alloc: Global, numbers: &[Option<u64>]) -> Result<Option<Vec<(u64, u64)>>, AllocError> {
     let mut pairs = Vec::new(alloc);
     for pair in numbers.chunks(2) {
@@ -21,7 +21,7 @@ fn pairs_of(alloc: Global, numbers: &[Option<u64>]) -> Result<Option<Vec<(u64, u
     Ok(Some(pairs))
 }
 
-// The numbers of a write that acts once, and whether no number, which is `sync`, follows them.
+// The numbers of a `write_once`, and whether `sync` follows them.
 fn once_of(line: &Line) -> (&[Option<u64>], bool) {
     match line.numbers() {
         [numbers @ .., None] => (numbers, true),
@@ -97,7 +97,7 @@ fn done<F: FileSystem>(line: &mut Line, engine: &mut Engine<F>, asked: OpLine) -
     step(line.alloc, engine, &op)
 }
 
-// The group from which the next short call of a purge goes on.
+// The group with which the next short call of a purge continues.
 fn goes_on(next: Result<Option<u64>, Fault>) -> Outcome {
     match next {
         Ok(next) => Outcome::Index(next),
@@ -105,7 +105,7 @@ fn goes_on(next: Result<Option<u64>, Fault>) -> Outcome {
     }
 }
 
-// What a call comes to.
+// The outcome of a call.
 fn outcome_of<F: FileSystem>(
     line: &mut Line,
     writing: &mut Writing,
@@ -124,7 +124,7 @@ fn outcome_of<F: FileSystem>(
     }
 }
 
-// Says what a call came to, if it left the batch as it should.
+// Prints the outcome of a call, or `another batch` if the call left the wrong batch.
 fn tell(line: &mut Line, writing: &mut Writing, had_items: bool, outcome: &Outcome) {
     if !writing.has_kept(had_items, outcome) {
         return line.said.say("another batch");
@@ -135,7 +135,7 @@ fn tell(line: &mut Line, writing: &mut Writing, had_items: bool, outcome: &Outco
     line.outcome(outcome);
 }
 
-/// Calls an engine, and says what that came to.
+/// Calls an engine and prints the outcome.
 pub(crate) fn answer<F: FileSystem>(
     line: &mut Line,
     writing: &mut Writing,

@@ -1,4 +1,4 @@
-//! What a check says of an opening of the folders a and b, and whether the opening does it.
+//! What a check reports about opening the folders a and b, compared with an opening.
 
 use crate::files::length;
 use raft_dump::Planned;
@@ -8,13 +8,14 @@ use raft_records::{Fault, Fresh, LogQueue};
 use raft_test_rows::{Config, Engine, RecoveryMode};
 use std::alloc::{AllocError, Global};
 
-/// The files of both queues.
+/// The log files of both queues.
 struct Checked {
     append: QueueFiles,
     rewrite: QueueFiles,
 }
 
-// One call in a proof that drops it; derived, it would be one of each field (docs/DECISIONS.md).
+// One call in each proof that drops it. A derived `Drop` would be one call for each field
+// (docs/DECISIONS.md).
 impl Drop for Checked {
     fn drop(self) {
         let Checked {
@@ -46,7 +47,7 @@ fn config(alloc: Global, mode: RecoveryMode) -> Result<Config, AllocError> {
     Ok(config)
 }
 
-// Whether an opening goes through, and what it leaves.
+// Whether an opening succeeds, and the files afterwards.
 fn opened<F: FileSystem + Drop>(alloc: Global, config: Config, files: F) -> (bool, F) {
     match Engine::open_in_order(alloc, config, files) {
         Ok(engine) => (true, engine.give_up()),
@@ -54,7 +55,7 @@ fn opened<F: FileSystem + Drop>(alloc: Global, config: Config, files: F) -> (boo
     }
 }
 
-// The length of a file of which this was planned; one without a header gets one of 61 bytes.
+// The length of a file after the planned step. A file without a header gets one of 61 bytes.
 fn planned_len(planned: Option<&Planned>, len: usize) -> usize {
     match planned {
         Some(Planned::Cut(0)) => 61,
@@ -75,7 +76,7 @@ fn is_as_long<F: FileSystem>(
     }
 }
 
-// Whether each file of a queue is as long as planned; where the opening fails, none has changed.
+// Whether each file of a queue has the planned length, or its old length if the opening failed.
 fn are_left<F: FileSystem>(
     alloc: Global,
     files: &mut F,
@@ -120,7 +121,7 @@ fn both_are_left<F: FileSystem>(
     )
 }
 
-// Whether an opening fails exactly if the check said so, and leaves the files as planned.
+// Whether an opening fails exactly if the check reports so, and leaves the files as planned.
 fn agrees<F: FileSystem + Drop>(
     alloc: Global,
     files: F,
@@ -165,7 +166,7 @@ fn text_if_done<F: FileSystem + Drop>(
     })
 }
 
-/// What a check says of an opening, if the opening then does it.
+/// Prints what a check reports about an opening, or `otherwise` if an opening does something else.
 pub(crate) fn outlook<F: FileSystem + Drop>(
     alloc: Global,
     files: F,

@@ -9,7 +9,8 @@ use raft_records::{Command, EntryIndex, Fault, KeyValue, LogItem, LogItemContent
 use std::alloc::Global;
 
 impl Said {
-    // An item, with its group. An entry is its index and length, or also its place.
+    // Prints an item with its group. An entry is printed as its index and length, or as its index
+    // and place.
     fn item(&mut self, item: &LogItem, has_places: bool) {
         let group = item.raft_group_id;
         match &item.content {
@@ -57,7 +58,7 @@ impl Said {
         }
     }
 
-    // Where an entry's block begins in the file, the offset in the block, and the length.
+    // Prints the offset of the entry's block in the file, the offset in the block, and the length.
     fn place(&mut self, entry: &EntryIndex) {
         match entry.entries {
             Some(block) => {
@@ -114,7 +115,7 @@ fn items_at<F: FileSystem>(line: &mut Line, files: &mut F, asked: ItemsLine) -> 
     add_items(&mut line.said, files, &mut items, has_places)
 }
 
-/// Says all items of a log file, or of those in a folder, one after another.
+/// Prints all items of a log file, or of the log files in a folder.
 pub(crate) fn say_items<F: FileSystem>(line: &mut Line, files: &mut F, asked: ItemsLine) {
     line.said.say("items");
     if let Err(fault) = items_at(line, files, asked) {

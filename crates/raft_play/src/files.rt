@@ -1,4 +1,4 @@
-//! Lines on files in memory, which no engine has.
+//! Lines that read or change files in memory that no engine has.
 
 use crate::asked::{ChangeLine, CountLine, FilesLine, UpsetLine};
 use crate::check::outlook;
@@ -51,7 +51,7 @@ fn bytes_at<F: FileSystem>(alloc: Global, files: &mut F, path: &str) -> Result<V
     Ok(bytes)
 }
 
-// Adds a number to each byte of a file, as a file system does that hides what it stores.
+// Adds a number to each byte of a file, as a file system does that encrypts what it stores.
 fn shift<F: FileSystem>(alloc: Global, files: &mut F, path: &str, by: u8) -> Result<(), FsFault> {
     let mut bytes = bytes_at(alloc, files, path)?;
     for byte in bytes.iter_mut() {
@@ -60,7 +60,7 @@ fn shift<F: FileSystem>(alloc: Global, files: &mut F, path: &str, by: u8) -> Res
     store(files, path, &bytes)
 }
 
-// Leaves the first bytes of a file.
+// Keeps only the first bytes of a file.
 fn cut<F: FileSystem>(files: &mut F, path: &str, len: u64) -> Result<(), FsFault> {
     let handle = files.open(path, Permission::ReadWrite)?;
     let mut writer = files.new_writer(&handle)?;
@@ -76,7 +76,7 @@ fn mode_of(word: &str) -> Option<RecoveryMode> {
     }
 }
 
-// How many names of a folder are those of Append files and of reserved ones.
+// The number of names in a folder that are those of Append files and of reserved ones.
 fn count_logs(names: &[String]) -> u64 {
     let mut count = 0u64;
     for name in names {
@@ -87,7 +87,7 @@ fn count_logs(names: &[String]) -> u64 {
     count
 }
 
-// The paths of the copies, and of links, of which a fork makes none.
+// Prints the paths of a fork's copies, and of links, which a fork doesn't make.
 fn say_fork<F: FileSystem>(line: &mut Line, config: &Config, files: &mut F) {
     match fork(line.alloc, config, files, line.text(0)) {
         Ok(details) => {
@@ -99,7 +99,7 @@ fn say_fork<F: FileSystem>(line: &mut Line, config: &Config, files: &mut F) {
     }
 }
 
-// What a check says of an opening of a copy.
+// Prints what a check reports about opening a copy.
 fn outlook_of_copy<F: Faulty>(
     alloc: Global,
     files: &F,
@@ -119,7 +119,7 @@ fn agree<F: Faulty>(line: &mut Line, files: &F) {
     }
 }
 
-// What a line changes as a log does.
+// Changes files as a log does.
 fn change<F: FileSystem>(line: &mut Line, files: &mut F, asked: ChangeLine) {
     let (alloc, path) = (line.alloc, line.text(0));
     let done = match asked {
@@ -131,7 +131,7 @@ fn change<F: FileSystem>(line: &mut Line, files: &mut F, asked: ChangeLine) {
     line.done_by_files(done);
 }
 
-// What a line changes from outside.
+// Changes files as a crash or another program does.
 fn upset<F: Faulty>(line: &mut Line, files: &mut F, asked: UpsetLine) {
     let (alloc, path, count) = (line.alloc, line.text(0), line.number(0));
     let done = match asked {
@@ -169,7 +169,7 @@ fn count<F: FileSystem>(line: &mut Line, files: &mut F, asked: CountLine) {
     }
 }
 
-/// Does what a line asks of files, where these are the settings.
+/// Carries out a request on files, with these settings.
 pub(crate) fn answer<F: Faulty>(line: &mut Line, config: &Config, files: &mut F, asked: FilesLine) {
     match asked {
         FilesLine::Change(asked) => change(line, files, asked),

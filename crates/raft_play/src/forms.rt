@@ -1,4 +1,5 @@
-//! The lines as rows of a table: the word with which each begins, what its other words are, and what it asks for.
+//! The forms of lines as rows of a table: the first word, the kinds of the other words, and the
+//! request.
 
 use crate::asked::{
     Asked, BatchLine, CallLine, ChangeLine, CountLine, EntriesLine, EntryLine, FilesLine,
@@ -8,28 +9,28 @@ use crate::asked::{
 use crate::words::is_byte;
 use raft_test_rows::{RecoveryMode, number_of};
 
-/// What a word is.
+/// The kind of a word.
 #[derive(Clone, Copy)]
 pub(crate) enum Kind {
-    /// This very word.
+    /// Exactly this word.
     Is(&'static str),
     Text,
     Number,
     /// A number below 256.
     Byte,
-    /// A number, or none for `-`.
+    /// A number, or `-` for no bound.
     Bound,
-    /// Bytes as words.rt spells them.
+    /// Bytes, spelled as in words.rt.
     Bytes,
-    /// Bytes, or none for `-`.
+    /// Bytes, or `-` for none.
     Key,
-    /// Numbers to the end of the line, and perhaps `sync`.
+    /// Numbers up to the end of the line, and `sync` if it is there.
     Numbers,
 }
 
 use Kind::{Bound, Byte, Bytes, Is, Key, Number, Numbers, Text};
 
-/// A line's first word, what its other words are, and what it asks for.
+/// The first word of a line, the kinds of its other words, and its request.
 #[derive(Clone, Copy)]
 pub(crate) struct Form(pub &'static str, pub &'static [Kind], pub Asked);
 
@@ -367,7 +368,7 @@ static FORMS: [Form; 90] = [
 ];
 
 impl Kind {
-    // Whether a word may be one of these.
+    // Whether the kind allows this word.
     fn takes(self, word: &str) -> bool {
         match self {
             Kind::Is(text) => word == text,
@@ -403,7 +404,7 @@ fn are_of(kinds: &[Kind], words: &[&str]) -> bool {
     true
 }
 
-/// The row of a line.
+/// The form of a line.
 pub(crate) fn form_of(first: &str, words: &[&str]) -> Option<Form> {
     for form in &FORMS {
         if form.0 == first && are_of(form.1, words) {

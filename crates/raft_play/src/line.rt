@@ -1,4 +1,4 @@
-//! A line that asks something: its words by what they are, and what it is answered.
+//! A line: its words by their kinds, and its result.
 
 use crate::asked::Asked;
 use crate::forms::{Kind, form_of};
@@ -9,32 +9,33 @@ use raft_records::Fault;
 use raft_test_rows::number_of;
 use std::alloc::{AllocError, Global};
 
-/// What a line that has no meaning is answered; no line may want it.
+/// The result of a line without a form. No line may expect it.
 pub(crate) const BAD_LINE: &str = "a bad line";
 
-/// The codes of a fault for memory and of one of storage.
+/// The codes of the faults `Memory` and `Io`.
 const MEMORY: u8 = 12;
 
 const STORAGE: u8 = 3;
 
-/// The words of a line after the first one, each kind in its order, and the answer as far as it is
-/// said. If the line is bad, or refused, nothing else counts.
+/// The words of a line after the first, in a list for each kind, and the result printed until now.
+/// If the line is bad or refused, only that counts.
 pub(crate) struct Line {
     pub(crate) alloc: Global,
-    /// What lines before gave names.
+    /// Bytes that earlier lines named.
     names: Names,
     texts: Vec<String>,
-    /// Also of words that are none, as `-`.
+    /// `None` for a word that is no number, such as `-`.
     numbers: Vec<Option<u64>>,
-    /// None for `-`.
+    /// `None` for `-`.
     values: Vec<Option<Vec<u8>>>,
     pub(crate) said: Said,
     is_bad: bool,
-    /// The code with which it is refused.
+    /// The code of the fault with which the line is refused.
     refusal: Option<u8>,
 }
 
-// One call in a proof that drops it; derived, it would be one of each field (docs/DECISIONS.md).
+// One call in each proof that drops it. A derived `Drop` would be one call for each field
+// (docs/DECISIONS.md).
 impl Drop for Line {
     fn drop(self) {
         let Line {
@@ -64,7 +65,7 @@ impl Line {
         }
     }
 
-    /// Begins with a line, of which no words are read and nothing is said.
+    /// Begins a new line: no words, and nothing printed.
     pub(crate) fn begin(&mut self) {
         self.texts.clear();
         self.numbers.clear();
@@ -74,7 +75,7 @@ impl Line {
         self.refusal = None;
     }
 
-    /// Reads the words of a line: what it asks for, if it has a meaning.
+    /// Reads the words of a line. Returns its request, or `None` if it has no form.
     pub(crate) fn read(&mut self, asked: &str) -> Result<Option<Asked>, AllocError> {
         let words = words_of(self.alloc, asked)?;
         self.read_words(&words)
@@ -150,8 +151,8 @@ impl Line {
         }
     }
 
-    /// The text, the number or the bytes at a place, of those that the line's form has. The greatest
-    /// number is that without a bound.
+    /// The text, number or bytes at a place in the list of their kind. A number without a bound is
+    /// the greatest one.
     pub(crate) fn text(&self, place: usize) -> &str {
         match self.texts.get(place) {
             Some(text) => text.as_str(),
@@ -178,7 +179,7 @@ impl Line {
         (self.number(place), self.number(place.saturating_add(1)))
     }
 
-    /// All numbers, and none for each other word.
+    /// All numbers; `None` for each other word.
     pub(crate) fn numbers(&self) -> &[Option<u64>] {
         self.numbers.as_slice()
     }
@@ -190,7 +191,7 @@ impl Line {
         }
     }
 
-    /// The bytes at a place, which then go.
+    /// Takes the bytes at a place.
     pub(crate) fn take_key(&mut self, place: usize) -> Option<Vec<u8>> {
         match self.values.get_mut(place) {
             Some(value) => value.take(),
@@ -205,7 +206,7 @@ impl Line {
         }
     }
 
-    /// Gives bytes a name: the text and the bytes of the line.
+    /// Names bytes: the first text of the line is the name.
     pub(crate) fn name(&mut self) -> Result<(), Fault> {
         let name = String::from_str(self.alloc, self.text(0))?;
         let bytes = self.take(0);
@@ -213,7 +214,7 @@ impl Line {
         Ok(())
     }
 
-    /// The line asks for nothing, or for something of an engine or of files that isn't there.
+    /// The line has no form, or needs an engine or files that don't exist.
     pub(crate) fn bad(&mut self) {
         self.is_bad = true;
     }
@@ -222,7 +223,7 @@ impl Line {
         self.refused(fault.code());
     }
 
-    /// .. for a fault of this code.
+    /// The line is refused with a fault of this code.
     pub(crate) fn refused(&mut self, code: u8) {
         self.refusal = Some(code);
     }
@@ -234,12 +235,12 @@ impl Line {
         });
     }
 
-    /// Whether the line has a meaning, and isn't refused.
+    /// Whether the line has a form and isn't refused.
     pub(crate) fn is_right(&self) -> bool {
         !self.is_bad && self.refusal.is_none()
     }
 
-    /// Says `ok`, or why it was refused.
+    /// Prints `ok`, or refuses the line with the fault.
     pub(crate) fn done(&mut self, done: Result<(), Fault>) {
         match done {
             Ok(()) => self.said.say("ok"),
@@ -254,7 +255,7 @@ impl Line {
         }
     }
 
-    /// What the line is answered.
+    /// The result of the line.
     pub(crate) fn answer(&mut self) -> &str {
         if self.is_bad {
             return BAD_LINE;

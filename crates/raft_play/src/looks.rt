@@ -1,4 +1,4 @@
-//! Lines that ask an engine for what it holds.
+//! Lines that read an engine.
 
 use crate::appends::whole;
 use crate::asked::{EntryLine, LookLine, WholeLine};
@@ -10,7 +10,7 @@ use raft_records::{Fault, LogQueue, Message};
 use raft_test_rows::{Engine, TextEntry, state_of};
 use std::alloc::{AllocError, Global};
 
-/// The keys and values that a scan hands over, until there are so many.
+/// The keys and values that a scan passes, up to a limit.
 #[derive(Drop)]
 struct Handed {
     said: Said,
@@ -27,7 +27,7 @@ impl Handed {
         }
     }
 
-    // Whether more is to be handed over.
+    // Takes a pair. Returns whether the scan shall continue.
     fn takes(&mut self, key: &[u8], value: &[u8]) -> bool {
         self.said.spell(" ", key);
         self.said.spell(" ", value);
@@ -46,7 +46,7 @@ impl Handed {
     }
 }
 
-// The pairs of a group from one key up to another, in order or backwards, until there are so many.
+// Scans a group's pairs between two keys, forwards or backwards, up to a limit.
 fn scan<F: FileSystem>(line: &mut Line, engine: &Engine<F>, reverse: bool) {
     let (group, most) = line.pair(0);
     let (start, end) = (line.take_key(0), line.take_key(1));
@@ -61,7 +61,7 @@ fn scan<F: FileSystem>(line: &mut Line, engine: &Engine<F>, reverse: bool) {
     handed.end(line, scanned);
 }
 
-// The keys of a group with the words of their messages, at most so many, in order or backwards.
+// Scans a group's messages and prints keys and words, up to a limit, forwards or backwards.
 fn messages<F: FileSystem>(line: &mut Line, engine: &Engine<F>, reverse: bool) {
     let (group, most) = line.pair(0);
     let mut handed = Handed::new(line.alloc, most);
@@ -81,7 +81,7 @@ fn bytes_of(alloc: Global, entry: &TextEntry) -> Result<Vec<u8>, AllocError> {
     Ok(bytes)
 }
 
-/// Whether the bytes that an engine lends of an entry are those of the one that it copied.
+/// Whether the bytes of an entry that an engine lends are those that it copies.
 pub(crate) fn lends<F: FileSystem>(
     alloc: Global,
     engine: &mut Engine<F>,
@@ -111,7 +111,7 @@ fn each_is_lent<F: FileSystem>(
     Ok(true)
 }
 
-// An entry, which is also lent.
+// Gets an entry, and borrows it too.
 fn entry_at<F: FileSystem>(line: &mut Line, engine: &mut Engine<F>) -> Result<(), Fault> {
     let (group, index) = line.pair(0);
     let copied = engine.get_entry::<TextEntry>(group, index)?;
@@ -123,7 +123,7 @@ fn entry_at<F: FileSystem>(line: &mut Line, engine: &mut Engine<F>) -> Result<()
     Ok(())
 }
 
-// The result of a fetch, and how many entries it hands over. Each of them is also lent.
+// Fetches entries, and borrows each one too. Prints the result and the number of entries.
 fn fetch<F: FileSystem>(line: &mut Line, engine: &mut Engine<F>) -> Result<(), Fault> {
     let group = line.number(0);
     let (begin, end) = line.pair(1);
@@ -144,7 +144,7 @@ fn message_at<F: FileSystem>(line: &mut Line, engine: &Engine<F>) -> Result<(), 
     Ok(())
 }
 
-// A message of any bytes.
+// Prints a message of any bytes.
 fn plain(said: &mut Said, message: Option<&Plain>) {
     match message {
         Some(message) => said.spell("value ", &message.bytes),
@@ -199,7 +199,7 @@ fn of_whole<F: FileSystem>(said: &mut Said, engine: &Engine<F>, asked: WholeLine
     }
 }
 
-/// Says what an engine holds.
+/// Reads an engine and prints the result.
 pub(crate) fn answer<F: FileSystem>(line: &mut Line, engine: &mut Engine<F>, asked: LookLine) {
     match asked {
         LookLine::Found => found(line, engine),

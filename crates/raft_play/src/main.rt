@@ -1,5 +1,5 @@
-//! Plays files of lines, each of which asks something of a log in memory and may say what is
-//! answered, and prints how many there were and which are answered otherwise. README.md has them.
+//! Plays files of lines, each a request to a log in memory, perhaps with its expected result.
+//! Prints the number of lines and of wrong results. README.md has the lines.
 #![tactic(auto)]
 
 mod appends;
@@ -37,7 +37,7 @@ fn main(rt: HostRuntime) -> Result<ExitCode, anyhow::Error> {
     })
 }
 
-// Whether each line is answered as it says.
+// Whether each line of a file has the expected result.
 fn play_file(rt: HostRuntime, path: &str) -> Result<bool, anyhow::Error> {
     let text = fs::read_to_string(&rt, path)?;
     let tally = play::<MemoryFileSystem>(rt.alloc(), text.as_str())?;

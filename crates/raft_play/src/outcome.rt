@@ -1,4 +1,4 @@
-//! What a call of an engine came to, as text.
+//! The outcome of an engine's call as text.
 
 use crate::line::Line;
 use crate::said::Said;
@@ -9,7 +9,7 @@ const PLACES: [&str; 13] = [
     "a", "b", "c", "d", "0", "1", "2", "3", "4", "5", "6", "7", "other",
 ];
 
-// The number that is all of an answer.
+// The number that is the whole outcome; `None` if it isn't a number.
 fn number_in(outcome: &Outcome) -> Option<u64> {
     match outcome {
         Outcome::Size(Ok(size)) => Some(*size as u64),
@@ -21,7 +21,7 @@ fn number_in(outcome: &Outcome) -> Option<u64> {
 }
 
 impl Line {
-    /// Says what a call came to.
+    /// Prints the outcome of a call.
     pub(crate) fn outcome(&mut self, outcome: &Outcome) {
         if let Some(fault) = fault_of(outcome) {
             self.refused(fault.code());
@@ -34,7 +34,7 @@ impl Line {
 }
 
 impl Said {
-    // What neither is refused nor a number.
+    // Prints an outcome that is neither a refusal nor a number.
     fn other(&mut self, outcome: &Outcome) {
         match outcome {
             Outcome::Sizes(Ok(sizes)) => self.sizes(sizes),
@@ -74,7 +74,8 @@ impl Said {
         }
     }
 
-    /// Says the first byte at each key and of each entry; `other` where anything else is held.
+    /// Prints the first byte of each key's value and of each entry; `other` if anything else is
+    /// held.
     pub(crate) fn state(&mut self, state: &State) {
         if *state == EMPTY {
             return self.say("nothing");

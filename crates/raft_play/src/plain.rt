@@ -1,10 +1,11 @@
-//! Messages of any bytes, also of none. As entries they have the index 0, as an empty message has.
+//! Messages of any bytes, also of none. As an entry such a message has the index 0, as an empty
+//! message has.
 ghost use Rattle.std.specs.Prelude.{◌≡◌};
 
 use raft_records::{Fault, Message, MessageExt};
 use std::alloc::{AllocError, Global};
 
-/// A message, which is its bytes.
+/// A message: its bytes.
 #[derive(Drop)]
 pub(crate) struct Plain {
     pub(crate) bytes: Vec<u8>,

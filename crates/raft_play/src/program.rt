@@ -1,4 +1,4 @@
-//! Lines of the program `raftlog`, and what it prints for them.
+//! Lines of the program `raftlog`, and the lines that it prints.
 
 use crate::asked::ProgramLine;
 use crate::line::Line;
@@ -8,15 +8,16 @@ use raft_records::Fault;
 use std::alloc::Global;
 use std::str;
 
-/// The lines that the program reads, and what it printed.
+/// The lines that the program reads, and its output.
 pub(crate) struct Program {
     input: Vec<u8>,
     printed: Vec<u8>,
-    // Where the next printed line begins.
+    // The offset of the next printed line.
     at: usize,
 }
 
-// One call in a proof that drops it; derived, it would be one of each field (docs/DECISIONS.md).
+// One call in each proof that drops it. A derived `Drop` would be one call for each field
+// (docs/DECISIONS.md).
 impl Drop for Program {
     fn drop(self) {
         let Program {
@@ -37,7 +38,7 @@ fn count_lines(printed: &[u8]) -> u64 {
     count
 }
 
-// The length of the first line, where there is one.
+// The length of the first line, if there is one.
 fn line_len(printed: &[u8]) -> Option<usize> {
     for (place, byte) in printed.iter().enumerate() {
         if *byte == b'\n' {
@@ -68,20 +69,20 @@ impl Program {
         }
     }
 
-    /// It reads a line.
+    /// Adds a line to the input.
     pub(crate) fn add(&mut self, line: &[u8], end: &[u8]) -> Result<(), Fault> {
         self.input.extend_from_slice(line)?;
         self.input.extend_from_slice(end)?;
         Ok(())
     }
 
-    // Runs the program. Says how it ended, and how many lines it printed.
+    // Runs the program. Prints how it ended, and the number of lines that it printed.
     fn serve(&mut self, line: &mut Line) {
         let ended = serve(line.alloc, self.input.as_slice(), &mut self.printed);
         say_ended(&mut line.said, ended, count_lines(&self.printed));
     }
 
-    /// It reads bytes, or it runs.
+    /// Adds bytes to the input, or runs the program.
     pub(crate) fn answer(&mut self, line: &mut Line, asked: ProgramLine) {
         let read = match asked {
             ProgramLine::Newline => self.add(b"", b"\n"),
@@ -100,7 +101,7 @@ impl Program {
         str::from_utf8(self.printed.get(self.at..end)?).ok()
     }
 
-    /// Says the next line that was printed.
+    /// Prints the next line of the output.
     pub(crate) fn next_line(&mut self, line: &mut Line) {
         let Some(len) = self.next_len() else {
             return line.bad();

@@ -1,9 +1,9 @@
-//! A text that is being made: what a line is answered.
+//! The text of a line's result, while it is being made.
 
 use crate::words::{are_same, is_text};
 use std::alloc::{AllocError, Global};
 
-/// If memory runs out something is left out, and the text isn't whole.
+/// If memory runs out, something is left out, and the text isn't complete.
 #[derive(Drop)]
 pub(crate) struct Said {
     alloc: Global,
@@ -39,7 +39,7 @@ impl Said {
         }
     }
 
-    /// Says what another text says.
+    /// Appends another text.
     pub(crate) fn add(&mut self, other: &Said) {
         self.say(other.as_str());
         self.is_whole = self.is_whole && other.is_whole;
@@ -61,7 +61,7 @@ impl Said {
         self.made(text);
     }
 
-    /// A number after a text.
+    /// Appends a text and a number.
     pub(crate) fn with(&mut self, front: &str, number: u64) {
         self.say(front);
         self.number(number);
@@ -72,7 +72,7 @@ impl Said {
         self.with(" ", second);
     }
 
-    /// Each path after a text.
+    /// Appends each path after a text.
     pub(crate) fn paths(&mut self, front: &str, paths: &[String]) {
         for path in paths {
             self.say(front);
@@ -80,8 +80,9 @@ impl Said {
         }
     }
 
-    /// Bytes as one word after a text: as text where all are graphic signs, else as hexadecimal
-    /// digits; one byte that occurs more than eight times is said once, with `*N`.
+    /// Appends bytes as one word after a text: as text if all are graphic signs, otherwise as
+    /// hexadecimal digits. A byte that occurs more than eight times in a row is printed once, with
+    /// `*N`.
     pub(crate) fn spell(&mut self, front: &str, all: &[u8]) {
         self.say(front);
         let is_one = all.len() > 8 && are_same(all);

@@ -1,4 +1,4 @@
-//! A log in memory, as the lines of a story leave it.
+//! A log in memory while the lines of a story are played.
 
 use crate::asked::{Asked, CallLine, FilesLine, LogLine, LookLine, SettingsLine};
 use crate::batch::Writing;
@@ -13,7 +13,7 @@ use raft_test_rows::{Config, Failing, Faulty, Held, RecoveryMode, settings};
 use std::alloc::{AllocError, Global};
 
 /// The settings of the next opening, the batch of the next write, the lines of a program, and the
-/// line that is answered. The files, or an engine over them, stand beside it.
+/// current line. The files, or an engine over them, are beside it.
 pub(crate) struct Session {
     alloc: Global,
     config: Config,
@@ -22,7 +22,8 @@ pub(crate) struct Session {
     pub(crate) line: Line,
 }
 
-// One call in a proof that drops it; derived, it would be one of each field (docs/DECISIONS.md).
+// One call in each proof that drops it. A derived `Drop` would be one call for each field
+// (docs/DECISIONS.md).
 impl Drop for Session {
     fn drop(self) {
         let Session {
@@ -88,7 +89,7 @@ fn fail_nth<F: Faulty>(line: &mut Line, held: &mut Held<F>) {
     }
 }
 
-// Says what the last opening or closing came to.
+// Prints how the last opening or closing ended.
 fn came_to<F: Faulty>(line: &mut Line, held: &Held<F>) {
     match held.fault() {
         Some(fault) => line.refused(fault.code()),
@@ -96,7 +97,7 @@ fn came_to<F: Faulty>(line: &mut Line, held: &Held<F>) {
     }
 }
 
-// Why it was refused, if a rule did it.
+// Prints why the last opening or closing was refused, if a rule refused it.
 fn why<F: Faulty>(line: &mut Line, held: &Held<F>) {
     match held.fault() {
         Some(Fault::InvalidArgument(reason)) => line.said.say(reason),
@@ -144,7 +145,7 @@ fn answer_log<F: Faulty>(line: &mut Line, config: &Config, held: &mut Held<F>, a
     }
 }
 
-// The settings with another value of one of them, as in TOML.
+// The settings with a new value for one key, as in TOML.
 fn with_value(alloc: Global, config: &Config, key: &str, value: &str) -> Result<Config, Fault> {
     let text = format!(in alloc; "{key} = {value}")?;
     with_text(alloc, config, text.as_str())
@@ -164,7 +165,7 @@ fn set(line: &mut Line, config: &mut Config, made: Result<Config, Fault>) {
     }
 }
 
-// The settings of the next opening, and bytes with names.
+// Changes the settings of the next opening, or names bytes.
 fn answer_settings(line: &mut Line, config: &mut Config, asked: SettingsLine) {
     let made = match asked {
         SettingsLine::Usual => usual(line.alloc),
@@ -188,7 +189,7 @@ impl Session {
         }
     }
 
-    /// Begins a story: new files, no batch, and the settings of the tests. Names stay.
+    /// Begins a story: new files, no batch, and the settings of the tests. Named bytes remain.
     pub(crate) fn renew<F: Faulty>(&mut self, held: &mut Held<F>) -> Result<(), AllocError> {
         held.renew(self.alloc);
         self.config = settings(self.alloc)?;
@@ -232,7 +233,7 @@ impl Session {
         }
     }
 
-    // A line of `raftlog` is taken as it is.
+    // A line that begins with `<` or `>` is read as it is.
     fn answer_printed(&mut self, asked: &str) {
         match asked.strip_prefix("< ") {
             Some(text) => {
@@ -243,7 +244,7 @@ impl Session {
         }
     }
 
-    /// Answers a line, which then has its answer.
+    /// Carries out a line, which then has its result.
     pub(crate) fn answer<F: Faulty>(
         &mut self,
         held: &mut Held<F>,

@@ -5,19 +5,19 @@ use crate::session::Session;
 use raft_test_rows::{Faulty, Held};
 use std::alloc::{AllocError, Global};
 
-/// What a file came to.
+/// The counts of a played file.
 #[derive(Drop)]
 pub(crate) struct Tally {
     pub(crate) stories: u64,
-    /// The lines that ask for something, and those of them that say what is answered.
+    /// The number of lines with a request, and of those with an expected result.
     pub(crate) lines: u64,
     pub(crate) answers: u64,
     pub(crate) wrong: u64,
-    /// The first line that is answered otherwise, and how.
+    /// The first line with a wrong result, and that result.
     pub(crate) first_wrong: Option<String>,
 }
 
-// What a line asks for, and what is to be answered, where it says so.
+// The request of a line, and its expected result, if it has one.
 fn parts(line: &str) -> (&str, Option<&str>) {
     if line.starts_with("< ") {
         return (line, None);
@@ -31,7 +31,7 @@ fn parts(line: &str) -> (&str, Option<&str>) {
     }
 }
 
-// A line without an answer asks for something that isn't refused.
+// A line without an expected result accepts all results except `refused ..` and `no`.
 fn is_right(answered: &str, wanted: Option<&str>) -> bool {
     match wanted {
         _ if answered == BAD_LINE => false,
@@ -41,7 +41,7 @@ fn is_right(answered: &str, wanted: Option<&str>) -> bool {
 }
 
 impl Tally {
-    // Counts a line that is answered so, and keeps the first one that is answered otherwise.
+    // Counts a line, and keeps the first one with a wrong result.
     fn count(
         &mut self,
         alloc: Global,

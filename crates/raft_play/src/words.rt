@@ -1,11 +1,11 @@
-//! Bytes as words: parts joined by `+`, each of which is text, `0x` and hexadecimal digits, or `$` and
-//! a name; `*N` after a part repeats it.
+//! Bytes as words: parts joined by `+`. A part is text, `0x` and hexadecimal digits, or `$` and a
+//! name; `*N` after a part repeats it.
 
 use hex::FromHexError;
 use raft_test_rows::number_of;
 use std::alloc::{AllocError, AllocFailed, Global};
 
-/// Bytes that a line gave a name.
+/// Bytes that lines have named.
 pub(crate) type Names = Vec<(String, Vec<u8>)>;
 
 /// Why a word means no bytes.
@@ -35,7 +35,7 @@ pub(crate) fn is_byte(word: &str) -> bool {
     }
 }
 
-// The bytes that a line gave this name.
+// The bytes of this name.
 fn named<'a>(names: &'a Names, name: &str) -> Option<&'a [u8]> {
     for (known, bytes) in names {
         if known.as_str() == name {
@@ -95,7 +95,7 @@ fn add_parts(
     Ok(())
 }
 
-/// The bytes that a word means.
+/// The bytes that a word spells.
 pub(crate) fn bytes_of(alloc: Global, names: &Names, word: &str) -> Result<Vec<u8>, Misspelled> {
     let mut bytes = Vec::new(alloc);
     for part in word.split('+') {
@@ -104,7 +104,7 @@ pub(crate) fn bytes_of(alloc: Global, names: &Names, word: &str) -> Result<Vec<u
     Ok(bytes)
 }
 
-/// Whether these bytes are said as text.
+/// Whether these bytes are printed as text.
 pub(crate) fn is_text(bytes: &[u8]) -> bool {
     if bytes.is_empty() || bytes.starts_with(b"0x") {
         return false;
@@ -117,7 +117,7 @@ pub(crate) fn is_text(bytes: &[u8]) -> bool {
     true
 }
 
-/// Whether all of them are the first one.
+/// Whether all bytes equal the first one.
 pub(crate) fn are_same(bytes: &[u8]) -> bool {
     for byte in bytes {
         if bytes.first() != Some(byte) {

@@ -1,4 +1,4 @@
-//! The holes in the log files of a folder.
+//! Holes in the entries of a folder's log files.
 
 use crate::failing::Failing;
 use crate::folders::{HEADER, stores_all};
@@ -10,7 +10,7 @@ use raft_records::Fault;
 use raft_rows::FileParts;
 use std::alloc::Global;
 
-// Records of entries without bytes, by Python's struct and zlib.
+// Records of entries without bytes, made by Python's struct and zlib.
 
 /// Entries 1..=3 of group 7, in file 1.
 const ONE_TO_THREE: &[u8] =
@@ -20,7 +20,7 @@ const ONE_TO_THREE: &[u8] =
 const SIX: &[u8] =
     b"\x00\x00\x00\x00\x00\x00\x1a\x00\x00\x00\x00\x00\x00\x00\x00\x10\x01\x07\x01\x01\x06\x00\xc0\x04\x9a\x27";
 
-/// Entries 1 and 4 of group 2, an item each, in file 3.
+/// Entries 1 and 4 of group 2, each in its own item, in file 3.
 const ONE_AND_FOUR: &[u8] =
     b"\x00\x00\x00\x00\x00\x00\x1f\x00\x00\x00\x00\x00\x00\x00\x00\x10\x02\x02\x01\x01\x01\x00\x02\x01\x01\x04\x00\x4c\x5c\x6a\xed";
 
@@ -28,7 +28,7 @@ const ONE_AND_FOUR: &[u8] =
 const FOUR: &[u8] =
     b"\x00\x00\x00\x00\x00\x00\x1a\x00\x00\x00\x00\x00\x00\x00\x00\x10\x01\x07\x01\x01\x04\x00\x42\x66\xac\x15";
 
-/// Entries 1 and 3 of group 7, an item each, in file 1.
+/// Entries 1 and 3 of group 7, each in its own item, in file 1.
 const ONE_AND_THREE: &[u8] =
     b"\x00\x00\x00\x00\x00\x00\x1f\x00\x00\x00\x00\x00\x00\x00\x00\x10\x02\x07\x01\x01\x01\x00\x07\x01\x01\x03\x00\xbd\x8e\xe2\x8c";
 
@@ -38,8 +38,8 @@ pub(crate) const APPEND_2: FileParts = ("data/0000000000000002.raftlog", &[HEADE
 
 pub(crate) const APPEND_3: FileParts = ("data/0000000000000003.raftlog", &[HEADER, ONE_AND_FOUR]);
 
-/// Log files, the folder that is looked through, and the groups with holes in it, or the code
-/// with which that is refused.
+/// Log files, the folder to check, and the groups with holes in it, or the code of the fault with
+/// which the check fails.
 pub(crate) struct Case {
     name: &'static str,
     stored: &'static [FileParts],
@@ -102,7 +102,7 @@ static CASES: [Case; 7] = [
     },
 ];
 
-// Whether a check came to what is wanted.
+// Whether a check has the wanted result.
 fn is_wanted<F: Drop>(
     found: Result<(Vec<(u64, u64)>, F), (Fault, F)>,
     wanted: &Result<&'static [(u64, u64)], u8>,
@@ -123,7 +123,7 @@ pub(crate) fn is_found<F: Failing>(alloc: Global, case: &Case) -> bool {
     is_wanted(found, &case.wanted)
 }
 
-// The same by the check of files in memory.
+// The same with the check of files in memory.
 fn is_found_in_memory(alloc: Global, case: &Case) -> bool {
     let mut files = MemoryFileSystem::new(alloc);
     if !stores_all(&mut files, case.stored) {

@@ -1,4 +1,4 @@
-//! Batches of both queues, those of the Append queue in chunks.
+//! Batches of both queues; the Append queue's batches are in chunks.
 
 use crate::steps::{GROUP, KEY, Step, items_of};
 use crate::told::{assert_at, assert_row};
@@ -9,8 +9,8 @@ use raft_replay::{InOrder, Read, RecoveryMachine, SideBySide, read_of};
 use std::alloc::Global;
 use std::thread::Threads;
 
-/// Batches of the Rewrite queue and two chunks of the Append queue's, the first and the last index that
-/// are read of them, and whether the key is.
+/// Batches of the Rewrite queue, two chunks of the Append queue, and what is recovered: the first
+/// and the last index, and whether the key exists.
 struct Case {
     name: &'static str,
     rewritten: &'static [Step],
@@ -106,7 +106,8 @@ fn machine_of(alloc: Global, queue: LogQueue, steps: &[Step]) -> Result<Recovery
     Ok(machine)
 }
 
-/// The machine of the Append queue, if the chunks are given to a machine each, or to one.
+/// The machine of the Append queue. If `apart`, each chunk has its own machine and they are
+/// merged; otherwise one machine replays both.
 fn appended(alloc: Global, case: &Case, apart: bool) -> Result<RecoveryMachine, Fault> {
     let mut appended = machine_of(alloc, LogQueue::Append, case.older)?;
     if apart {
@@ -127,7 +128,7 @@ fn is_as_said(case: &Case, read: &Read) -> bool {
     indexes == case.indexes && tables.get(GROUP, KEY).is_some() == case.has_key
 }
 
-// Whether what is read comes to what the case says.
+// Whether the recovered contents are the case's.
 fn comes_to(case: &Case, read: Result<Read, Fault>) -> bool {
     match read {
         Ok(read) => is_as_said(case, &read),

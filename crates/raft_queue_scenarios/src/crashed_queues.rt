@@ -1,5 +1,5 @@
-//! Both queues of a folder, written side by side and crashed: what the stages of an opening then read of each, and when
-//! they don't come to an end.
+//! Both queues of a folder, written in turn and crashed: what an opening in stages then reads of
+//! each, and when it can't be finished.
 ghost use Rattle.std.specs.Prelude.{IfOk, OnOk};
 ghost use Rattle.raft_queues.specs.Dual.{StandSideBySide};
 
@@ -18,13 +18,13 @@ use raft_queues::DualPipes;
 use raft_records::{Fault, Fresh, LogBatch, LogQueue};
 use std::alloc::Global;
 
-/// A file with so many bytes is full.
+/// The number of bytes at which a file is full.
 const TARGET: usize = 1024;
 
-/// No case has more files.
+/// The most files of a case.
 const FILES: usize = 5;
 
-/// The keys that an opening finds in both queues.
+/// The keys that an opening reads from both queues.
 pub(crate) fn recover<F: FileSystem>(
     alloc: Global,
     builder: &mut DualPipesBuilder<F>,
@@ -33,7 +33,7 @@ pub(crate) fn recover<F: FileSystem>(
     read_keys(alloc, builder)
 }
 
-/// Opens both queues; what is read of each goes to its machine.
+/// Opens both queues. The batches of each go to its machine.
 pub(crate) fn opened<F: FileSystem + Drop>(
     alloc: Global,
     fs: F,
@@ -123,7 +123,7 @@ pub(crate) fn no_keys(alloc: Global) -> (Keys, Keys) {
     (Keys::fresh(alloc), Keys::fresh(alloc))
 }
 
-// The files once the steps were taken, of which no pipe was closed.
+// The files after the steps. No pipe was closed.
 fn written<F: FileSystem + Drop>(alloc: Global, fs: F, steps: &[Step]) -> Result<F, Fault> {
     let mut keys = no_keys(alloc);
     let (mut pipes, mut fs) = opened(alloc, fs, &mut keys)?;
@@ -135,7 +135,7 @@ fn written<F: FileSystem + Drop>(alloc: Global, fs: F, steps: &[Step]) -> Result
     }
 }
 
-// The files after an opening, if it reads these keys.
+// The files after an opening; `None` unless it reads these keys.
 fn reads<F: FileSystem + Drop>(
     alloc: Global,
     fs: F,
@@ -167,12 +167,12 @@ fn choices(alloc: Global, left: &Left) -> Result<Vec<Choice>, Fault> {
     Ok(choices)
 }
 
-// What a crash leaves.
+// The files after a crash.
 fn crashed<F: Failing>(alloc: Global, fs: &F, left: &Left) -> Result<F, Fault> {
     fs.crashed(&choices(alloc, left)?)
 }
 
-// The files after a crash and an opening, if it reads the keys of the case.
+// The files after a crash and an opening; `None` unless it reads the keys of the case.
 fn reads_after<F: Failing>(alloc: Global, fs: &F, left: &Left, case: &Case) -> Option<F> {
     match crashed(alloc, fs, left) {
         Ok(crashed) => reads(alloc, crashed, case.append, case.rewrite),
@@ -180,7 +180,7 @@ fn reads_after<F: Failing>(alloc: Global, fs: &F, left: &Left, case: &Case) -> O
     }
 }
 
-/// What was found stays: it is read once more after another crash.
+/// Whether the case's keys are found after a crash, and found again after a second crash.
 pub(crate) fn is_as_said<F: Failing>(alloc: Global, case: &Case) -> bool {
     let found = match written(alloc, F::fresh(alloc), case.steps) {
         Ok(fs) => reads_after(alloc, &fs, &case.left, case),
@@ -192,7 +192,7 @@ pub(crate) fn is_as_said<F: Failing>(alloc: Global, case: &Case) -> bool {
     }
 }
 
-// Files of both queues, over which the opening's call is refused.
+// Files of both queues in which the opening's call will fail.
 fn refusing<F: Failing>(alloc: Global, opening: &Opening) -> Result<F, Fault> {
     let mut fs = written(alloc, F::fresh(alloc), &ONE_EACH)?;
     if let Some((call, nth)) = opening.refused {
@@ -201,7 +201,8 @@ fn refusing<F: Failing>(alloc: Global, opening: &Opening) -> Result<F, Fault> {
     Ok(fs)
 }
 
-/// Both queues are read afterwards as they were written.
+/// Whether the opening ends as its row says, and another one then reads both queues as they were
+/// written.
 pub(crate) fn ends_as_said<F: Failing>(alloc: Global, opening: &Opening) -> bool {
     let refusing: Result<F, Fault> = refusing(alloc, opening);
     let done = match refusing {

@@ -1,4 +1,5 @@
-//! Both queues of a folder, crashed or opened in stages, as rows: what is done, and what is read of each queue.
+//! Both queues of a folder, crashed or opened in stages, as rows: the steps, and what is then read
+//! of each queue.
 
 use crate::two_queues::Step as Stage;
 use LogQueue::{Append, Rewrite};
@@ -9,22 +10,23 @@ use raft_records::LogQueue;
 pub(crate) enum Left {
     Now,
     Synced,
-    /// Of the places touched since the last sync only so many, the first ones; the others hold the byte.
+    /// Of the bytes written since the last sync only the first ones, as many as this number. The
+    /// others have this value.
     Torn(usize, u8),
 }
 
 pub(crate) enum Step {
-    /// Appends a batch that puts this key, 27 bytes, and syncs the queue where that is asked.
+    /// Appends a batch of 27 bytes that puts this key. Then syncs the queue if the flag is set.
     Put(LogQueue, u8, bool),
     Sync(LogQueue),
-    /// Goes on to the queue's next file.
+    /// Begins the queue's next file.
     Rotate(LogQueue),
     /// Deletes the queue's files before this number.
     Purge(LogQueue, u64),
 }
 
-/// What is written from no files on, what a crash leaves of the files, and what is then read of the Append queue and of
-/// the Rewrite queue: the file's number and the key of each batch.
+/// Steps that begin without files, what a crash leaves, and what is then read of the Append queue
+/// and of the Rewrite queue: the file's number and the key of each batch.
 pub(crate) struct Case {
     pub name: &'static str,
     pub steps: &'static [Step],
@@ -139,19 +141,20 @@ static IN_MORE: [Case; 5] = [
     },
 ];
 
-// A function is checked with all of each table that it names, and that grows with the square of the table.
+// A function is checked with the whole of each table that it names, and the time grows with the
+// square of its length.
 pub(crate) fn cases() -> [&'static [Case]; 2] {
     [&IN_ONE_FILE, &IN_MORE]
 }
 
-/// The two queues that each opening finds.
+/// Steps that leave both queues with one file each.
 pub(crate) const ONE_EACH: [Step; 2] = [
     Step::Put(Append, b'a', true),
     Step::Put(Rewrite, b'b', true),
 ];
 
-/// An opening of two queues, each of one file: the call that storage refuses, the stages, and the code with which the
-/// opening isn't finished.
+/// An opening of two queues of one file each: the call that fails, the stages, and the code with
+/// which finishing the opening fails.
 pub(crate) struct Opening {
     pub name: &'static str,
     pub refused: Option<(FsCall, u64)>,

@@ -1,22 +1,22 @@
-//! Files in memory, for what is written over any files: a function that calls those in memory is
-//! dear to prove.
+//! The trait of files in memory, so that tests are written over any files. A function that calls
+//! files in memory by name takes long to prove.
 
 use raft_env::{FileSystem, IoKind};
 use raft_memory::{Choice, FsCall, MemoryFileSystem};
 use raft_records::Fault;
 use std::alloc::{AllocError, Global};
 
-/// Files that fail and crash as they are told.
+/// Files whose calls fail, and that crash, on request.
 pub(crate) trait Failing: FileSystem + Drop {
     fn fresh(alloc: Global) -> Self;
 
-    /// The nth call of a sort fails from now on.
+    /// From now on the nth call of this sort fails.
     fn fail(&mut self, call: FsCall, nth: u64, kind: IoKind) -> Result<(), Fault>;
 
-    /// What a crash leaves by these choices.
+    /// The files that a crash leaves by these choices.
     fn crashed(&self, choices: &[Choice]) -> Result<Self, Fault>;
 
-    /// Gives a folder so many bytes of free space.
+    /// Sets a folder's free space in bytes.
     fn free_to(&mut self, folder: &str, bytes: u64) -> Result<(), AllocError>;
 
     /// Gives metadata to a path.

@@ -1,4 +1,4 @@
-//! What the tests of queues share: the settings of their folder, and its files before and after.
+//! Helpers of the tests of queues: settings of their folder, and its files before and after.
 
 use raft_builder::DualPipesBuilder;
 use raft_config::Config;
@@ -7,11 +7,11 @@ use raft_records::{Fault, Fresh};
 use raft_rows::{FileParts, store_in};
 use std::alloc::{AllocError, Global};
 
-/// That of a file in version 2.
+/// The header of a file of version 2.
 pub(crate) const HEADER: &[u8] =
     b"RAFT-LOG-FILE-HEADER-9986AB3E47F320B394C8E84916EB0ED5\0\0\0\0\0\0\0\x02\0\0\0\0\0\0\0\0";
 
-/// Those of one folder, in which no file is used again.
+/// Settings of one folder, in which no file is reused.
 pub(crate) fn settings(alloc: Global) -> Result<Config, AllocError> {
     let mut config = Config::fresh(alloc);
     config.dir.push_str("data")?;
@@ -19,7 +19,7 @@ pub(crate) fn settings(alloc: Global) -> Result<Config, AllocError> {
     Ok(config)
 }
 
-/// An opening of both queues in these settings, of which nothing was read.
+/// An opening of both queues in these settings, which has read nothing.
 pub(crate) fn begun_in<F: FileSystem + Drop>(
     alloc: Global,
     config: &Config,
@@ -31,7 +31,7 @@ pub(crate) fn begun_in<F: FileSystem + Drop>(
     }
 }
 
-/// .. in those of one folder.
+/// The same in the settings of one folder.
 pub(crate) fn begun<F: FileSystem + Drop>(
     alloc: Global,
     fs: F,
@@ -39,7 +39,7 @@ pub(crate) fn begun<F: FileSystem + Drop>(
     begun_in(alloc, &settings(alloc)?, fs)
 }
 
-/// Makes a file of these parts, in the folder of its path, which is made if it isn't there.
+/// Makes a file of these parts, and its folder if that doesn't exist.
 pub(crate) fn stores<F: FileSystem>(fs: &mut F, path: &str, parts: &[&[u8]]) -> bool {
     let folder = match path.rsplit_once('/') {
         Some((folder, _name)) => folder,
@@ -58,7 +58,7 @@ pub(crate) fn stores_all<F: FileSystem>(fs: &mut F, files: &[FileParts]) -> bool
     true
 }
 
-/// The length of a file.
+/// The length of a file in bytes.
 pub(crate) fn length_of<F: FileSystem>(fs: &mut F, path: &str) -> Option<usize> {
     match fs.open(path, Permission::ReadOnly) {
         Ok(handle) => match fs.file_size(&handle) {
@@ -69,7 +69,7 @@ pub(crate) fn length_of<F: FileSystem>(fs: &mut F, path: &str) -> Option<usize> 
     }
 }
 
-// Reads into the bytes, and answers how many were read.
+// Reads into the buffer and returns the number of bytes read.
 fn read_to<F: FileSystem>(fs: &mut F, path: &str, bytes: &mut [u8]) -> Result<usize, FsFault> {
     let handle = fs.open(path, Permission::ReadOnly)?;
     let mut reader = fs.new_reader(&handle)?;
@@ -78,7 +78,7 @@ fn read_to<F: FileSystem>(fs: &mut F, path: &str, bytes: &mut [u8]) -> Result<us
     read
 }
 
-/// Whether the file at the path begins with so many zeros.
+/// Whether the file at the path begins with this number of zeros.
 pub(crate) fn has_zeros<F: FileSystem>(alloc: Global, fs: &mut F, path: &str, len: usize) -> bool {
     match vec![in alloc; 7; len] {
         Ok(mut bytes) => read_to(fs, path, &mut bytes) == Ok(len) && are_all(&bytes, 0),
@@ -86,7 +86,7 @@ pub(crate) fn has_zeros<F: FileSystem>(alloc: Global, fs: &mut F, path: &str, le
     }
 }
 
-/// How many files and folders stand in a folder.
+/// The number of files and folders in a folder.
 pub(crate) fn count_in<F: FileSystem>(fs: &mut F, folder: &str) -> Option<usize> {
     match fs.list(folder) {
         Ok(names) => Some(names.len()),
@@ -94,7 +94,7 @@ pub(crate) fn count_in<F: FileSystem>(fs: &mut F, folder: &str) -> Option<usize>
     }
 }
 
-/// Whether each of the bytes is this one.
+/// Whether each byte has this value.
 pub(crate) fn are_all(bytes: &[u8], wanted: u8) -> bool {
     for byte in bytes {
         if *byte != wanted {
@@ -114,7 +114,7 @@ pub(crate) fn have_lengths<F: FileSystem>(fs: &mut F, files: &[(&str, usize)]) -
     true
 }
 
-/// .. and stand alone.
+/// The same, and the folder has no other files.
 pub(crate) fn stand_alone<F: FileSystem>(fs: &mut F, files: &[(&str, usize)]) -> bool {
     let folder = if fs.is_dir("data") { "data" } else { "" };
     have_lengths(fs, files) && count_in(fs, folder) == Some(files.len())

@@ -1,4 +1,4 @@
-//! Chunks of many groups, joined by so many threads.
+//! Chunks of many groups, joined by a number of threads.
 
 use crate::steps::{KEY, entry};
 use crate::told::assert_at;
@@ -9,8 +9,8 @@ use raft_replay::{Read, RecoveryMachine, SideBySide, read_of};
 use std::alloc::{AllocError, Global};
 use std::thread::Threads;
 
-/// The groups of each chunk, from the first to the last. Each has entries with the indexes 1 to 3
-/// of the first chunk, 3 and 4 of the second, and a key with the chunk's number as its value.
+/// The first and the last group of each chunk. In the first chunk a group has entries 1 to 3, in
+/// the others 3 and 4. The value of its key is the chunk's number.
 const CHUNKS: [(u64, u64); 3] = [(1, 40), (3, 50), (5, 60)];
 
 const THREADS: [usize; 4] = [1, 2, 3, 8];
@@ -73,7 +73,8 @@ fn read<R: Threads + Sync>(rt: &R, alloc: Global, threads: usize) -> Result<Read
     )
 }
 
-/// Whether the group has what the last of its chunks put, over what it lets stand of the others.
+/// Whether the group has the items of its last chunk, and those of earlier ones that these don't
+/// replace.
 fn is_as_said(read: &Read, group: u64) -> bool {
     let tables = &read.tables;
     let (value, last) = match group {

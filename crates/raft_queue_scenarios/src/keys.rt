@@ -5,7 +5,7 @@ use raft_opening::ReplayMachine;
 use raft_records::{Fault, FileId, Fresh, KeyValue, LogItem, LogItemContent, LogQueue};
 use std::alloc::Global;
 
-/// Takes the keys that batches put, each with the number of its file.
+/// Collects the keys that batches put, each with the number of its file.
 #[derive(Drop)]
 pub(crate) struct Keys {
     pub found: Vec<(u64, u8)>,

@@ -1,4 +1,4 @@
-//! Laws are functions that do nothing: their contracts are what they state.
+//! Laws are functions without effects: their contracts state them. This file calls each.
 
 use raft_base::laws::files_are_ordered;
 use raft_codec::number::{u32_round_trip, u64_round_trip, var_round_trip};

@@ -1,5 +1,6 @@
-//! Tests of queues of log files over files in memory, of workers that read them, of the checker of consistency, and a
-//! call of each law below the engine. Each is one loop over a table of cases.
+//! Tests of queues of log files over files in memory, of workers that read them, and of the
+//! checker of consistency, and a call of each law below the engine. Each is one loop over a table
+//! of cases.
 #![tactic(auto)]
 
 #[cfg(test)]

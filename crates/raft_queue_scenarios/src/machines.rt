@@ -1,4 +1,4 @@
-//! The first hole in each group's entries, by one checker and by several that are merged.
+//! The first hole in each group's entries, found by one checker and by several that are merged.
 
 use crate::steps::entry;
 use crate::told::{assert_at, assert_row};
@@ -10,7 +10,7 @@ use std::alloc::{AllocError, Global};
 /// A group, and the first and the last index of entries.
 type Entries = (u64, u64, u64);
 
-/// Entries in order, and the last index before the first hole of each group with one.
+/// Entries in order, and for each group with a hole the last index before its first hole.
 struct Case {
     name: &'static str,
     entries: &'static [Entries],
@@ -68,7 +68,7 @@ fn item(alloc: Global, entries: Entries) -> Result<LogItem, AllocError> {
     })
 }
 
-/// A checker that was given these entries, a batch each.
+/// A checker that replayed these entries, each in its own batch.
 fn checker(alloc: Global, entries: &[Entries]) -> Result<ConsistencyChecker, AllocError> {
     let mut checker = ConsistencyChecker::new(alloc);
     for one in entries {
@@ -91,7 +91,7 @@ fn are_holes(alloc: Global, checker: ConsistencyChecker, wanted: &[(u64, u64)]) 
     holes.len() == wanted.len()
 }
 
-/// A checker for older entries and one for newer ones, merged.
+/// A checker of the older entries merged with one of the newer ones.
 fn in_halves(
     alloc: Global,
     older: &[Entries],
@@ -102,7 +102,7 @@ fn in_halves(
     Ok(whole)
 }
 
-/// A machine for each of the entries, merged.
+/// One machine for each batch of entries, merged.
 fn apart(alloc: Global, entries: &[Entries]) -> Result<ConsistencyChecker, Fault> {
     let mut machines = Vec::new(alloc);
     for one in entries {

@@ -1,4 +1,4 @@
-//! Two workers that wait for one another.
+//! Two workers that wait for each other.
 
 use crate::failing::Failing;
 use crate::stored::ready;
@@ -18,7 +18,7 @@ use std::thread::Threads;
 /// How often a machine looks for the other one.
 const TURNS: u64 = 10_000_000;
 
-/// Holds its first batch until another machine has begun.
+/// A machine that keeps its first batch until another machine has begun.
 #[derive(Drop)]
 struct Meeting {
     begun: Arc<AtomicU64, Global>,
@@ -45,7 +45,7 @@ impl MergingMachine for Meeting {
     }
 }
 
-/// Makes machines that wait for one another.
+/// Makes machines that wait for each other.
 #[derive(Drop)]
 struct Meetings {
     begun: Arc<AtomicU64, Global>,
@@ -67,7 +67,7 @@ fn make_meetings(alloc: Global) -> Result<Meetings, AllocError> {
     })
 }
 
-// Two workers of the Append queue alone.
+// Two workers that read only the Append queue.
 const ALONE: RecoveryConfig = RecoveryConfig {
     queue: LogQueue::Append,
     mode: RecoveryMode::TolerateAnyCorruption,
@@ -95,7 +95,7 @@ fn opened<F: Failing>(alloc: Global, is_alone: bool) -> Result<DualPipesBuilder<
     ready(alloc, F::fresh(alloc), (2, 0), threads)
 }
 
-/// Whether the machines of two Append files meet, if both queues are read or this one by itself.
+/// Whether the machines of two Append files meet, if both queues are read or only this one.
 pub(crate) fn meet<R: Threads + Sync, F: Failing>(rt: &R, alloc: Global, is_alone: bool) -> bool {
     let Ok(meetings) = make_meetings(alloc) else {
         return false;

@@ -1,4 +1,5 @@
-//! A queue of log files: where what is appended stands, what is read of it, and how it goes on to next files.
+//! A queue of log files: the places of what is appended, what is read from them, and rotations to
+//! next files.
 ghost use Rattle.std.specs.Prelude.{◌≡◌, true, IfOk};
 ghost use Rattle.raft_pipes.specs.Pipe.{IsPipeOf};
 
@@ -12,8 +13,8 @@ use raft_pipes::{LogFolders, NewPipe, RotationFault, SinglePipe};
 use raft_records::{Fault, FileBlockHandle, FileId, LogItem, LogQueue};
 use std::alloc::Global;
 
-/// Bytes that are written: so many of one byte, for files that are full with so many bytes, and
-/// whether they are synced.
+/// Bytes to write: their number and value, the size at which a file is full, and whether they are
+/// synced.
 #[derive(Clone, Copy)]
 struct Written {
     byte: u8,
@@ -22,40 +23,41 @@ struct Written {
     sync: bool,
 }
 
-/// A file with so many bytes is full.
+/// The number of bytes at which a file is full.
 const TARGET: usize = 1024;
 
-/// A file with its header is full.
+/// With this target a file is full once it has its header.
 const ALWAYS_FULL: usize = 1;
 
-/// 16 bytes where a file's records begin: their byte, and the number of the file.
+/// 16 bytes at the place of a file's first record: their value, and the file's number.
 pub(crate) enum Each {
-    /// They are appended and synced.
+    /// Appends and syncs the bytes.
     Put(u8, u64),
-    /// They alone are read at the handle of their append.
+    /// Reads exactly these bytes at the handle of their append.
     Read(u8, u64),
-    /// The handle of their append is refused.
+    /// Reading at the handle of their append fails.
     Gone(u64),
 }
 
 pub(crate) enum Step {
-    /// Ten of these, each with the next byte and in the next file.
+    /// Ten of these, each with the next value and in the next file.
     Ten(Each),
-    /// Appends so many bytes, to the next file where the last one is full: the file and the place where they stand.
+    /// Appends so many bytes, in the next file if the last one is full. Then the number of the
+    /// file, and the bytes' offset in it.
     Append(usize, u64, u64),
     Rotate,
-    /// Going on to a next file fails with this code.
+    /// Beginning a next file fails with this code.
     RotateRefused(u8),
-    /// So many bytes are read of this place in this file.
+    /// The file, the offset and the length of a read, and how many bytes it returns.
     Read(u64, u64, usize, usize),
-    /// So many files before this number are deleted, or that fails with this code.
+    /// Deletes the files before this number, and returns how many, or fails with this code.
     Purge(u64, Result<usize, u8>),
-    /// The first file and the last one, and the bytes of all if they are full.
+    /// The numbers of the first and the last file, and the bytes of all if they are full.
     Span(u64, u64, usize),
 }
 
-/// A file that stands before the queue is opened, how many files are kept to be used again, the
-/// steps, and the files after them with their lengths.
+/// A file that exists before the queue is opened, how many files are kept for reuse, the steps,
+/// and the files afterwards with their lengths.
 pub(crate) struct Case {
     name: &'static str,
     found: Option<&'static str>,
@@ -125,8 +127,8 @@ static ROWS: [Case; 3] = [
     },
 ];
 
-/// Each file holds one record, since it is full with its header. Of the eleven files that are
-/// dropped ten are used again, in order.
+/// Each file holds one record, since it is full with its header. Eleven files are dropped, and ten
+/// of them are reused, in order.
 static USED_AGAIN: [Case; 1] = [Case {
     name: "files are used again",
     found: None,
@@ -160,7 +162,8 @@ static USED_AGAIN: [Case; 1] = [Case {
     ],
 }];
 
-// A function is checked with all of each table that it names, and that grows with the square of the table.
+// A function is checked with the whole of each table that it names, and the time grows with the
+// square of its length.
 fn cases() -> [&'static [Case]; 2] {
     [&ROWS, &USED_AGAIN]
 }
@@ -177,7 +180,7 @@ impl ReplayMachine for NoMachine {
     }
 }
 
-// The pipe of the Append queue, over the files that stand.
+// The pipe of the Append queue over the existing files.
 fn opened<F: FileSystem>(alloc: Global, fs: &mut F, capacity: usize) -> Result<SinglePipe<F>, Fault>
     ensures stands { IfOk result (λ pipe. IsPipeOf pipe (F.directory fs.new)) }
 {
@@ -199,7 +202,7 @@ fn opened<F: FileSystem>(alloc: Global, fs: &mut F, capacity: usize) -> Result<S
     settle_or_begin(alloc, wanted, files, replayed, fs)
 }
 
-// Whether bytes are appended there, after the pipe has gone on to a next file if its last one is full.
+// Whether bytes are appended at this place, after a rotation if the last file is full.
 fn appends<F: FileSystem>(
     alloc: Global,
     fs: &mut F,
@@ -223,7 +226,7 @@ fn appends<F: FileSystem>(
     }
 }
 
-// Whether so many bytes are read of a block, all of them those that are appended.
+// Whether a read of a block returns this number of bytes, all with the value that was appended.
 fn reads<F: FileSystem>(
     alloc: Global,
     fs: &mut F,
@@ -238,7 +241,7 @@ fn reads<F: FileSystem>(
     is_read && bytes.len() == wanted && are_all(&bytes, 7)
 }
 
-// Whether 16 bytes alone are read, all of them this byte.
+// Whether exactly 16 bytes are read, all with this value.
 fn reads_all<F: FileSystem>(
     alloc: Global,
     fs: &mut F,
@@ -274,7 +277,7 @@ fn first_block(seq: u64) -> FileBlockHandle {
     block(seq, 69, 16)
 }
 
-// Whether the nth comes to what it says.
+// Whether the nth of the ten ends as it says.
 fn nth_holds<F: FileSystem>(
     alloc: Global,
     fs: &mut F,
@@ -304,7 +307,7 @@ fn nth_holds<F: FileSystem>(
     }
 }
 
-// Whether all ten come to what they say.
+// Whether all ten end as they say.
 fn ten_hold<F: FileSystem>(alloc: Global, fs: &mut F, pipe: &mut SinglePipe<F>, each: &Each) -> bool
     requires { IsPipeOf pipe.old (F.directory fs.old) }
     ensures stands { result ≡ true → IsPipeOf pipe.new (F.directory fs.new) }
@@ -317,7 +320,7 @@ fn ten_hold<F: FileSystem>(alloc: Global, fs: &mut F, pipe: &mut SinglePipe<F>, 
     true
 }
 
-// Whether the step comes to what it says.
+// Whether the step ends as it says.
 fn holds<F: FileSystem>(alloc: Global, fs: &mut F, pipe: &mut SinglePipe<F>, step: &Step) -> bool
     requires { IsPipeOf pipe.old (F.directory fs.old) }
     ensures stands { result ≡ true → IsPipeOf pipe.new (F.directory fs.new) }
@@ -372,7 +375,7 @@ fn all_hold<F: FileSystem>(
     true
 }
 
-// Whether the steps come to what they say, and the pipe is closed after them.
+// Whether each step ends as it says, and the pipe is closed afterwards.
 fn are_taken<F: FileSystem>(alloc: Global, fs: &mut F, case: &Case) -> bool {
     match opened(alloc, fs, case.capacity) {
         Ok(mut pipe) => all_hold(alloc, fs, &mut pipe, case.steps) && pipe.close(fs).is_ok(),

@@ -1,12 +1,12 @@
-//! What a newer chunk of batches does to what an older one left.
+//! What a newer chunk of batches removes of the entries that an older chunk left.
 
 use crate::steps::{GROUP, Step, items_of};
 use crate::told::assert_row;
 use raft_replay::Reaches;
 use std::alloc::{AllocError, Global};
 
-/// Items of two chunks, whether the newer one replaces all older entries, and else which indexes
-/// it leaves alone of those up to 9.
+/// Items of two chunks, whether the newer chunk replaces all older entries, and otherwise which
+/// indexes from 1 to 9 it leaves.
 struct Case {
     name: &'static str,
     older: &'static [Step],
@@ -75,7 +75,8 @@ fn whole_of(alloc: Global, case: &Case) -> Result<Reaches, AllocError> {
     Ok(whole)
 }
 
-/// Whether the chunks do as the case says, and reach together what their items reach in order.
+/// Whether the newer chunk leaves what the case says, and both chunks together reach what their
+/// items in order reach.
 fn do_as_said(case: &Case, mut older: Reaches, newer: Reaches, whole: &Reaches) -> bool {
     newer.reach(GROUP).replaces(&older.reach(GROUP)) == case.replaces
         && leaves_as_said(&newer, case.left)

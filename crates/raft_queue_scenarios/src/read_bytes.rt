@@ -11,7 +11,8 @@ use raft_queues::DualPipes;
 use raft_records::{FileBlockHandle, FileId, LogQueue};
 use std::alloc::Global;
 
-/// A file of a queue, where bytes begin in it and how many, and these bytes or the code with which reading them fails.
+/// A file of a queue, the offset and the number of bytes to read, and these bytes or the code with
+/// which the read fails.
 pub(crate) type Row = (LogQueue, u64, u64, usize, Result<&'static [u8], u8>);
 
 static ROWS: [Row; 8] = [

@@ -1,4 +1,4 @@
-//! Both queues, read by so many workers.
+//! Both queues, read by a number of workers.
 
 use crate::failing::Failing;
 use crate::keys::Keys;
@@ -14,7 +14,7 @@ use raft_records::{Fault, LogQueue};
 use std::alloc::Global;
 use std::thread::Threads;
 
-/// How many files each queue has.
+/// The number of files of each queue.
 pub(crate) struct Case {
     name: &'static str,
     append: u8,
@@ -52,7 +52,7 @@ static CASES: [Case; 5] = [
 /// Five files make chunks of 5, of 3 and 2, of 2, 2 and 1, and of 1.
 const THREADS: [usize; 5] = [0, 1, 2, 3, 8];
 
-/// Whether these are the keys of so many files, in order.
+/// Whether these are the keys of this number of files, in order.
 fn are_all(keys: &Keys, files: u8) -> bool {
     for (key, found) in (1..files.saturating_add(1)).zip(keys.found.iter()) {
         if *found != (u64::from(key), key) {
@@ -62,7 +62,7 @@ fn are_all(keys: &Keys, files: u8) -> bool {
     keys.found.len() == usize::from(files)
 }
 
-// The keys that workers find in both queues.
+// The keys that workers read from both queues.
 fn recover<R: Threads + Sync, F: FileSystem + Drop>(
     rt: &R,
     alloc: Global,
@@ -88,7 +88,7 @@ fn has_all<R: Threads + Sync, F: FileSystem + Drop>(
     }
 }
 
-/// Whether so many workers find all keys, and all files are to be cut.
+/// Whether this number of workers finds all keys, and each file is to be cut.
 pub(crate) fn finds_all<R: Threads + Sync, F: Failing>(
     rt: &R,
     alloc: Global,
@@ -121,8 +121,8 @@ fn each_number_of_workers_finds_the_same(rt: HostRuntime) {
     }
 }
 
-/// How many files are read of a queue by itself, or the code with which that fails: all if damage
-/// is tolerated, none by no workers, and else the damage is found.
+/// The number of files read if only one queue is read, or the code with which that fails: all
+/// files if damage is tolerated, none without workers, and otherwise the fault of the damage.
 fn files_read(case: &Case, recovery: &RecoveryConfig) -> Result<u8, u8> {
     let files = match recovery.queue {
         LogQueue::Append => case.append,
@@ -159,7 +159,7 @@ fn reads_queue<R: Threads + Sync, F: FileSystem + Drop>(
     }
 }
 
-/// Whether a queue that is read by itself, in a mode of its own, has the keys that it should.
+/// Whether the expected keys are found if only this queue is read, in a mode of its own.
 pub(crate) fn is_read_alone<R: Threads + Sync, F: Failing>(
     rt: &R,
     alloc: Global,
@@ -191,7 +191,7 @@ fn recovery(queue: LogQueue, mode: RecoveryMode, concurrency: usize) -> Recovery
     }
 }
 
-/// Modes in which a queue is read by itself.
+/// The modes in which only one queue is read.
 const MODES: [RecoveryMode; 2] = [
     RecoveryMode::TolerateAnyCorruption,
     RecoveryMode::AbsoluteConsistency,
@@ -212,7 +212,7 @@ fn each_queue_is_read_alone(rt: HostRuntime) {
     }
 }
 
-// Files of both queues, over which the nth call of a sort is refused.
+// Files of both queues in which the nth call of a sort will fail.
 fn refusing<F: Failing>(alloc: Global, call: FsCall, nth: u64) -> Option<F> {
     let mut fs = F::fresh(alloc);
     if stores_both(alloc, &mut fs, (3, 2)) && fs.fail(call, nth, IoKind::Other).is_ok() {
@@ -233,8 +233,8 @@ fn cuts_nothing<R: Threads + Sync, F: FileSystem + Drop>(
     is_refused && is_uncut && code_of(ended) == Some(15)
 }
 
-/// Whether reading both queues fails as `Io` if the nth call of a sort is refused, cuts nothing,
-/// and leaves the opening unfinished.
+/// Whether reading both queues fails with `Io` if the nth call of a sort fails, cuts nothing, and
+/// leaves the opening unfinished.
 pub(crate) fn is_refused<R: Threads + Sync, F: Failing>(
     rt: &R,
     alloc: Global,

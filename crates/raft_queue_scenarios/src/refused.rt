@@ -1,4 +1,4 @@
-//! Checks of a folder's entries in which a call on the files fails.
+//! Checks of a folder's entries in which one call on the files fails.
 
 use crate::checks::{APPEND_1, APPEND_2, APPEND_3};
 use crate::failing::Failing;
@@ -17,7 +17,7 @@ const FILES: &[FileParts] = &[APPEND_1, APPEND_2, APPEND_3];
 
 const HOLES: &[(u64, u64)] = &[(2, 1), (7, 3)];
 
-/// A sort of calls, and how many of them a check of three files makes at the least.
+/// A sort of calls, and the least number of them in a check of three files.
 pub(crate) struct Sort(FsCall, u64);
 
 static SORTS: [Sort; 5] = [
@@ -30,11 +30,11 @@ static SORTS: [Sort; 5] = [
 
 const KINDS: [IoKind; 3] = [IoKind::NoSpace, IoKind::NotFound, IoKind::Other];
 
-/// More calls of a sort than a check makes.
+/// More calls of one sort than a check makes.
 const MANY: u64 = 50;
 
-// Whether all holes are found, or else the check failed as the call did, and the files; none where
-// something else came of it.
+// Whether all holes are found, or the check failed with the call's fault, and the files; `None` if
+// the outcome is another one.
 fn checked<F: FileSystem + Drop>(alloc: Global, fs: F, kind: IoKind) -> (Option<bool>, F) {
     match consistency_check_with_file_system(alloc, "data", fs) {
         Ok((holes, fs)) => (found_all(&holes), fs),
@@ -53,8 +53,8 @@ fn failed_as(fault: &Fault, kind: IoKind) -> Option<bool> {
     }
 }
 
-// Whether the nth call of the sort came, and failed the check, and the next one finds all; none
-// where something else came of it.
+// Whether the nth call of the sort was made and failed the check, and a second check finds all.
+// `None` if the outcome is another one.
 fn fails_at<F: Failing>(alloc: Global, call: FsCall, nth: u64, kind: IoKind) -> Option<bool> {
     let mut fs = F::fresh(alloc);
     if !stores_all(&mut fs, FILES) || fs.fail(call, nth, kind).is_err() {
@@ -72,8 +72,8 @@ fn fails_at<F: Failing>(alloc: Global, call: FsCall, nth: u64, kind: IoKind) -> 
     if again == Some(true) { again } else { None }
 }
 
-/// Whether each call of the sort fails the check, as many as it makes at the least, and nothing
-/// else comes of one.
+/// Whether each call of the sort fails the check, a check makes at least the row's number of them,
+/// and there is no other outcome.
 pub(crate) fn fails_each_time<F: Failing>(alloc: Global, sort: &Sort, kind: IoKind) -> bool {
     for nth in 1..MANY {
         match fails_at::<F>(alloc, sort.0, nth, kind) {
@@ -95,8 +95,8 @@ fn a_failing_call_fails_the_check(rt: HostRuntime) {
     }
 }
 
-// Whether a check finds all holes; with the Nth request for memory refused (`rt try --test --fail-
-// alloc N`) it says so, and the next one finds them.
+// Whether a check finds all holes. If the Nth request for memory is refused (`rt try --test
+// --fail-alloc N`), the check reports that, and a second check finds them.
 fn is_found<F: Failing>(alloc: Global) -> Result<bool, Fault> {
     let mut fs = F::fresh(alloc);
     if !stores_all(&mut fs, FILES) {
@@ -109,7 +109,7 @@ fn is_found<F: Failing>(alloc: Global) -> Result<bool, Fault> {
     }
 }
 
-// tools/refusals takes `error: Memory` for a want of memory.
+// tools/refusals reads `error: Memory` as out of memory.
 #[test]
 fn a_check_without_memory_is_made_again(rt: HostRuntime) -> Result<(), Fail> {
     assert!(rt; is_found::<MemoryFileSystem>(rt.alloc())?);

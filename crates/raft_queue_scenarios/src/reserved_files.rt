@@ -1,4 +1,4 @@
-//! Reserved files, the folder that a new file goes to, and metadata of files that are gone.
+//! Reserved files, the folder of a new file, and metadata of deleted files.
 
 use crate::crashed_queues::recover;
 use crate::failing::Failing;
@@ -25,7 +25,7 @@ fn path_of(alloc: Global, seq: u64) -> Result<String, Fault> {
     FileId::new(LogQueue::Append, seq).build_file_path(alloc, "data")
 }
 
-// Gives the file of this number metadata.
+// Gives metadata to the file of this number.
 fn notes<F: Failing>(alloc: Global, fs: &mut F, seq: u64) -> bool {
     match path_of(alloc, seq) {
         Ok(path) => fs.note(path.as_str()).is_ok(),
@@ -49,7 +49,7 @@ fn has_metadata<F: FileSystem>(alloc: Global, fs: &F, seq: u64) -> Option<bool> 
     }
 }
 
-// Whether of the files that had metadata these alone have some.
+// Whether of the files that had metadata exactly these still have some.
 fn are_left<F: FileSystem>(alloc: Global, fs: &F, had: &[u64], left: &[u64]) -> bool {
     for seq in had {
         if has_metadata(alloc, fs, *seq) != Some(left.contains(seq)) {
@@ -59,13 +59,13 @@ fn are_left<F: FileSystem>(alloc: Global, fs: &F, had: &[u64], left: &[u64]) -> 
     true
 }
 
-// Clears what stands before the first file of the Append queue, in one folder.
+// Removes the metadata before the first file of the Append queue, in one folder.
 fn clear<F: FileSystem>(alloc: Global, fs: &mut F, first: u64) -> Result<(), Fault> {
     let folders = LogFolders::new(&folders::settings(alloc)?)?;
     clear_metadata(alloc, &folders, LogQueue::Append, first, fs)
 }
 
-// Refuses the nth call of a sort, or none.
+// Lets the nth call of a sort fail, if there is an n.
 fn refuses<F: Failing>(fs: &mut F, call: FsCall, nth: Option<u64>) -> bool {
     match nth {
         Some(nth) => fs.fail(call, nth, IoKind::Other).is_ok(),
@@ -85,7 +85,7 @@ fn both_folders(alloc: Global) -> Result<LogFolders, Fault> {
     LogFolders::new(&settings(alloc, &("data", "more"))?)
 }
 
-// Where a new file of 1024 bytes goes.
+// The index of the folder that gets a new file of 1024 bytes.
 fn place<F: FileSystem>(alloc: Global, fs: &mut F) -> Option<usize> {
     match both_folders(alloc) {
         Ok(folders) => Some(folders.choose(1024, fs)),
@@ -140,7 +140,7 @@ fn have_lengths<F: FileSystem>(fs: &mut F, files: &[(&str, Option<usize>)]) -> b
     true
 }
 
-// Makes files ahead over the reserved ones that are found.
+// Makes spare files from the reserved ones that are found.
 fn made_ahead<F: FileSystem>(
     alloc: Global,
     fs: &mut F,
@@ -173,7 +173,7 @@ fn refuses_call<F: Failing>(fs: &mut F, refused: &Option<(FsCall, u64, IoKind)>)
     }
 }
 
-/// Whether making files ahead comes to what the row says.
+/// Whether making spare files ends as the row says.
 pub(crate) fn is_prefilled<F: Failing>(alloc: Global, row: &Prefilled) -> bool {
     let mut fs = F::fresh(alloc);
     fs.make_dir("data").is_ok()
@@ -199,7 +199,7 @@ fn opened<F: FileSystem + Drop>(alloc: Global, config: &Config, files: F) -> Opt
     }
 }
 
-// Settings with four spare files of 1024 bytes, which are made ahead or not.
+// Settings with four spare files of 1024 bytes, which are made at the opening or not.
 fn spare_settings(alloc: Global, is_prefilling: bool) -> Result<Config, Fault> {
     let mut config = folders::settings(alloc)?;
     config.enable_log_recycle = true;
@@ -210,7 +210,7 @@ fn spare_settings(alloc: Global, is_prefilling: bool) -> Result<Config, Fault> {
     Ok(config)
 }
 
-// Whether the file has so many zeros, or none stands at the path.
+// Whether the file has this number of zeros; if none is given, whether no file has the path.
 fn is_reserved<F: FileSystem>(alloc: Global, fs: &mut F, path: &str, len: Option<usize>) -> bool {
     let has_zeros = match len {
         Some(len) => has_zeros(alloc, fs, path, len),
@@ -253,7 +253,7 @@ pub(crate) fn are_made_and_deleted<F: Failing>(alloc: Global) -> bool {
     }
 }
 
-// A file of the number 200, and metadata before it.
+// A file of number 200, and metadata of earlier numbers.
 fn stores_and_notes<F: Failing>(alloc: Global, files: &mut F) -> bool {
     match path_of(alloc, 200) {
         Ok(path) => {

@@ -1,4 +1,4 @@
-//! Reserved files, the folder that a new file goes to, and metadata of files that are gone, as rows.
+//! Reserved files, the folder of a new file, and metadata of deleted files, as rows.
 
 use raft_env::IoKind;
 use raft_memory::FsCall;
@@ -11,13 +11,13 @@ pub(crate) const RESERVED_3: &str = "data/0000000000000003.raftlog.reserved";
 
 pub(crate) const RESERVED_4: &str = "data/0000000000000004.raftlog.reserved";
 
-/// Numbers whose Append files have metadata before a first one, and those that still have them after the clearing, of
-/// which one may be refused.
+/// Numbers whose Append files have metadata before a first file, and those that still have it
+/// after the removal, in which one deletion may fail.
 pub(crate) struct Cleared {
     pub name: &'static str,
     pub first: u64,
     pub had: &'static [u64],
-    /// Which deletion of metadata is refused.
+    /// The number of the deletion of metadata that fails.
     pub refused: Option<u64>,
     pub left: &'static [u64],
 }
@@ -67,11 +67,11 @@ pub(crate) static CLEARED: [Cleared; 6] = [
     },
 ];
 
-/// Free space of both folders, and where a new file of 1024 bytes goes.
+/// Free space of both folders in bytes, and the folder of a new file of 1024 bytes.
 pub(crate) struct Room {
     pub name: &'static str,
     pub free: (u64, u64),
-    /// Which question for free space is refused.
+    /// The number of the query for free space that fails.
     pub refused: Option<u64>,
     pub place: usize,
 }
@@ -109,22 +109,22 @@ pub(crate) static ROOM: [Room; 5] = [
     },
 ];
 
-/// Reserved files that stand, and those after an opening that wants some.
+/// Existing reserved files, and those after an opening.
 pub(crate) struct Prefilled {
     pub name: &'static str,
     pub stored: &'static [&'static str],
     pub append_files: usize,
-    /// Of files that are used again, and of reserved ones.
+    /// The limits of files for reuse, and of reserved files.
     pub limits: (usize, usize),
     pub target_size: usize,
-    /// A call that is refused.
+    /// A call that fails.
     pub refused: Option<(FsCall, u64, IoKind)>,
     pub spare: Answer,
-    /// Paths, and the lengths of the files there, where some stand.
+    /// Paths with the lengths of their files; `None` if no file has the path.
     pub after: &'static [(&'static str, Option<usize>)],
 }
 
-/// The spare files, or a refusal as `Io`.
+/// The number of spare files, or a failure with `Io`.
 pub(crate) enum Answer {
     Spare(&'static [&'static str]),
     Refused,

@@ -1,9 +1,9 @@
-//! How many workers read each queue, and how many files each takes.
+//! How many workers read each queue, and how many files each worker takes.
 
 use raft_builder::{Workers, chunk_len, workers_for};
 
-/// Threads and files of both queues, the workers of each, and how many files each of them takes
-/// at most.
+/// The number of threads and of each queue's files, the workers of each queue, and the most files
+/// that one of them takes.
 struct Case {
     threads: usize,
     files: (usize, usize),

@@ -1,4 +1,4 @@
-//! What the items of one group do.
+//! Items of one group.
 
 use raft_records::{Command, EntryIndex, KeyValue, LogItem, LogItemContent};
 use std::alloc::{AllocError, Global};
@@ -7,7 +7,7 @@ pub(crate) const GROUP: u64 = 1;
 
 pub(crate) const KEY: &[u8] = b"k";
 
-/// What an item does. Each stands in a batch of its own.
+/// An item. Each is in a batch of its own.
 #[derive(Clone, Copy)]
 pub(crate) enum Step {
     /// Entries from the first index to the last.

@@ -1,4 +1,4 @@
-//! Log files that the tests of workers read.
+//! The log files that the tests of workers read.
 
 use crate::folders::{HEADER, begun_in, stores};
 use raft_builder::DualPipesBuilder;
@@ -19,7 +19,7 @@ fn populate(alloc: Global, batch: &mut LogBatch, key: u8) -> Result<(), Fault> {
     Ok(())
 }
 
-// A file of one batch, which puts this key, and of bytes that can't be read.
+// A file of one batch, which puts this key, with unreadable bytes after it.
 fn stores_key<F: FileSystem>(alloc: Global, fs: &mut F, queue: LogQueue, key: u8) -> bool {
     let id = FileId::new(queue, u64::from(key));
     let mut batch = LogBatch::new(alloc);
@@ -42,8 +42,7 @@ fn stores_keys<F: FileSystem>(alloc: Global, fs: &mut F, queue: LogQueue, count:
     true
 }
 
-/// Stores so many files of each queue, the nth of which puts the key n, and ends in bytes that
-/// can't be read.
+/// Stores so many files of each queue. The nth puts the key n, and ends in unreadable bytes.
 pub(crate) fn stores_both<F: FileSystem>(alloc: Global, fs: &mut F, files: (u8, u8)) -> bool {
     fs.make_dir(FOLDER).is_ok()
         && stores_keys(alloc, fs, LogQueue::Append, files.0)
@@ -58,8 +57,8 @@ fn settings(alloc: Global, threads: usize) -> Result<Config, AllocError> {
     Ok(config)
 }
 
-/// An opening of both queues that has found their files, for so many threads, and tolerates all
-/// damage.
+/// An opening of both queues that has found their files, for this number of threads, in the mode
+/// that tolerates any damage.
 pub(crate) fn scanned<F: FileSystem + Drop>(
     alloc: Global,
     fs: F,
@@ -75,7 +74,7 @@ pub(crate) fn scanned<F: FileSystem + Drop>(
     }
 }
 
-/// .. over so many files of each queue.
+/// The same over this number of files of each queue.
 pub(crate) fn ready<F: FileSystem + Drop>(
     alloc: Global,
     mut fs: F,

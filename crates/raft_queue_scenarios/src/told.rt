@@ -1,13 +1,13 @@
-//! What tests assert of rows: a failing test names the row that comes to something else.
+//! Assertions over rows: a failed test names its row.
 
 use std::process::Abort;
 
-/// What has this name comes to what it says.
+/// Asserts the row of this name.
 pub(crate) fn assert_row<R: Abort>(rt: &R, held: bool, name: &str) {
     assert!(rt; held, "{name}");
 }
 
-/// .. with this number, of threads or of a place.
+/// Asserts the row of this name with this number of threads, or at this place.
 pub(crate) fn assert_at<R: Abort>(rt: &R, held: bool, name: &str, number: usize) {
     assert!(rt; held, "{name}, {number}");
 }

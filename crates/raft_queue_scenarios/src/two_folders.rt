@@ -1,4 +1,5 @@
-//! Queues whose log files stand in both folders of the settings: which of them a recovery keeps, and when there is no opening.
+//! Queues with log files in both folders of the settings: which files a recovery keeps, and when
+//! an opening fails.
 
 use crate::failing::Failing;
 use crate::folders::{HEADER, begun_in, count_in, have_lengths, stores_all};
@@ -37,7 +38,8 @@ const SPILL_6: FileParts = ("more/0000000000000006.raftlog", &[HEADER]);
 
 const SPILL_REWRITE_2: FileParts = ("more/0000000000000002.rewrite", &[HEADER]);
 
-/// Files, and those of the Append queue that a recovery keeps, each with whether its number stands in one folder alone.
+/// Files, and those of the Append queue that a recovery keeps. The flag says that only one folder
+/// has a file of this number.
 pub(crate) struct Scan {
     name: &'static str,
     stored: &'static [FileParts],
@@ -110,16 +112,16 @@ static SCANS: [Scan; 10] = [
     },
 ];
 
-/// What an opening reads of the Append queue: its batches, the files that are cut, with how much of them is kept, and the
-/// first file and the last one.
+/// What an opening reads of the Append queue: the number of batches, the files that are cut with
+/// the length that is kept, and the first and the last file.
 pub(crate) struct Found {
     batches: usize,
     cuts: &'static [Wanted],
     span: (u64, u64),
 }
 
-/// The folders of the settings, files, what an opening finds, or the code with which it fails, and the files after it with
-/// their lengths.
+/// The folders of the settings, files, what an opening finds or the code with which it fails, and
+/// the files afterwards with their lengths.
 pub(crate) struct Opening {
     name: &'static str,
     folders: (&'static str, &'static str),
@@ -232,12 +234,13 @@ static REFUSED: [Opening; 5] = [
     },
 ];
 
-// A function is checked with all of each table that it names, and that grows with the square of the table.
+// A function is checked with the whole of each table that it names, and the time grows with the
+// square of its length.
 fn openings() -> [&'static [Opening]; 2] {
     [&OPENED, &REFUSED]
 }
 
-// Adds a folder, which is made if it isn't there.
+// Makes a folder if it doesn't exist.
 fn adds_folder<F: FileSystem>(
     alloc: Global,
     fs: &mut F,
@@ -272,7 +275,7 @@ pub(crate) fn is_scanned<F: Failing>(alloc: Global, row: &Scan) -> bool {
     }
 }
 
-/// Those of these two folders.
+/// Settings with these two folders.
 pub(crate) fn settings(alloc: Global, folders: &(&str, &str)) -> Result<Config, AllocError> {
     let mut config = Config::fresh(alloc);
     config.dir.push_str(folders.0)?;
@@ -280,7 +283,7 @@ pub(crate) fn settings(alloc: Global, folders: &(&str, &str)) -> Result<Config, 
     Ok(config)
 }
 
-// Whether the opening ended with these first and last files of the Append queue.
+// Whether the opening ended with this first and last file of the Append queue.
 fn has_span(ended: Ended, span: (u64, u64)) -> bool {
     match ended {
         Ok((append, _rewrite)) => append == span,
@@ -288,7 +291,8 @@ fn has_span(ended: Ended, span: (u64, u64)) -> bool {
     }
 }
 
-// The files after an opening that goes on after its scan, if it comes to what it says.
+// The files after an opening that continues after its scan; `None` unless it finds what the row
+// says.
 fn gone_on<F: FileSystem + Drop>(
     alloc: Global,
     mut builder: DualPipesBuilder<F>,
@@ -304,7 +308,7 @@ fn gone_on<F: FileSystem + Drop>(
     }
 }
 
-// The files after the opening, if it comes to what it says.
+// The files after the opening; `None` unless it ends as the row says.
 fn opened<F: FileSystem + Drop>(
     alloc: Global,
     mut builder: DualPipesBuilder<F>,
@@ -324,7 +328,7 @@ fn opened<F: FileSystem + Drop>(
     }
 }
 
-// How many files and folders stand in a folder, if that is one.
+// The number of files and folders in a folder; 0 if it doesn't exist.
 fn count_below<F: FileSystem>(fs: &mut F, folder: &str) -> Option<usize> {
     if fs.is_dir(folder) {
         count_in(fs, folder)
@@ -343,7 +347,7 @@ fn count_at_top(files: &[(&str, usize)]) -> usize {
     counted
 }
 
-// Whether these files stand alone, with these lengths.
+// Whether exactly these files exist, with these lengths.
 fn have_stayed<F: FileSystem>(fs: &mut F, row: &Opening) -> bool {
     let (main, spill) = row.folders;
     let spilled = if main == spill {
@@ -361,7 +365,7 @@ fn have_stayed<F: FileSystem>(fs: &mut F, row: &Opening) -> bool {
     }
 }
 
-// An opening of these files in the settings of the row.
+// An opening of the row's files in the row's settings.
 fn begun_over<F: FileSystem + Drop>(
     alloc: Global,
     fs: F,

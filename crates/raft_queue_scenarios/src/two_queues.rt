@@ -1,4 +1,5 @@
-//! Both queues of a folder, opened in stages: what is read of each, where their files are cut, and what is left of them.
+//! Both queues of a folder, opened in stages: what is read of each, and what is cut off their
+//! files.
 
 use crate::failing::Failing;
 use crate::folders::{HEADER, begun, stand_alone, stores_all};
@@ -11,32 +12,34 @@ use raft_records::{Fault, FileId, Fresh, LogQueue};
 use raft_rows::FileParts;
 use std::alloc::Global;
 
-/// A record of 28 bytes, signed for file 1 of either queue, and one for file 2; by Python's struct and zlib.
+/// A record of 28 bytes signed for file 1 of either queue, and one for file 2; made by Python's
+/// struct and zlib.
 pub(crate) const PUT_1: &[u8] =
     b"\x00\x00\x00\x00\x00\x00\x1c\x00\x00\x00\x00\x00\x00\x00\x00\x10\x01\x01\x03\x01\x01\x61\x01\x01\xf9\x48\xbe\x2b";
 
 pub(crate) const PUT_2: &[u8] =
     b"\x00\x00\x00\x00\x00\x00\x1c\x00\x00\x00\x00\x00\x00\x00\x00\x10\x01\x01\x03\x01\x01\x62\x01\x02\x19\xa7\xf1\xb0";
 
-/// A file that is cut, by its queue and number, and how much of it is kept.
+/// A file that is cut: its queue, its number, and the length that is kept.
 pub(crate) type Wanted = (LogQueue, u64, usize);
 
 pub(crate) enum Step {
     Scan,
     /// The scan fails with this code.
     ScanRefused(u8),
-    /// So many batches are read of the queue.
+    /// This number of batches is read of the queue.
     Read(LogQueue, usize),
-    /// Both queues are read in order: so many batches of the Append queue, and of the Rewrite queue.
+    /// Both queues are read in order: the number of batches of the Append queue, and of the
+    /// Rewrite queue.
     ReadBoth(usize, usize),
     /// Reading the queue fails with this code.
     ReadRefused(LogQueue, u8),
-    /// The files that are cut, by queue and number, with how much of them is kept.
+    /// The files that are cut.
     Cuts(&'static [Wanted]),
 }
 
-/// Files and their bytes before the opening, its stages, the last file of each queue or the code with which the opening
-/// isn't finished, and the files after it with their lengths.
+/// Files with their bytes before the opening, its stages, the last file of each queue or the code
+/// with which finishing fails, and the files afterwards with their lengths.
 pub(crate) struct Case {
     name: &'static str,
     stored: &'static [FileParts],
@@ -162,7 +165,8 @@ static BROKEN_FILE: [Case; 1] = [Case {
     ],
 }];
 
-// A function is checked with all of each table that it names, and that grows with the square of the table.
+// A function is checked with the whole of each table that it names, and the time grows with the
+// square of its length.
 fn cases() -> [&'static [Case]; 5] {
     [
         &REFUSED,
@@ -173,7 +177,8 @@ fn cases() -> [&'static [Case]; 5] {
     ]
 }
 
-// How many batches are read of the queue, or the code with which that fails. Each puts one key.
+// The number of batches read of the queue, or the code with which that fails. Each batch puts one
+// key.
 fn read<F: FileSystem>(
     alloc: Global,
     builder: &mut DualPipesBuilder<F>,
@@ -194,7 +199,7 @@ pub(crate) fn read_keys<F: FileSystem>(
     builder.recover_in_order(&DefaultMachineFactory::new(alloc))
 }
 
-/// Whether so many batches are read of the Append queue, and of the Rewrite queue.
+/// Whether this number of batches is read of the Append queue, and of the Rewrite queue.
 pub(crate) fn reads_both<F: FileSystem>(
     alloc: Global,
     builder: &mut DualPipesBuilder<F>,
@@ -226,7 +231,7 @@ pub(crate) fn is_refused_as<T: Drop>(answer: Result<T, Fault>, code: u8) -> bool
     }
 }
 
-// Whether the step comes to what it says.
+// Whether the step ends as it says.
 fn holds<F: FileSystem>(alloc: Global, builder: &mut DualPipesBuilder<F>, step: &Step) -> bool {
     match step {
         Step::Scan => builder.scan().is_ok(),
@@ -251,10 +256,10 @@ fn all_hold<F: FileSystem>(
     true
 }
 
-/// The first file and the last one of each queue, or the code with which the opening isn't finished.
+/// The first and the last file of each queue, or the code with which finishing the opening fails.
 pub(crate) type Ended = Result<((u64, u64), (u64, u64)), u8>;
 
-/// The files after the end of an opening.
+/// The files after the opening is finished.
 pub(crate) fn finished<F: FileSystem + Drop>(builder: DualPipesBuilder<F>) -> (Ended, F) {
     match builder.finish() {
         Ok((pipes, files)) => {
@@ -267,7 +272,7 @@ pub(crate) fn finished<F: FileSystem + Drop>(builder: DualPipesBuilder<F>) -> (E
     }
 }
 
-/// The code with which an opening isn't finished.
+/// The code with which finishing an opening fails.
 pub(crate) fn code_of(ended: Ended) -> Option<u8> {
     match ended {
         Ok(_spans) => None,
@@ -285,7 +290,7 @@ fn is_end(ended: Ended, wanted: &Result<(u64, u64), u8>) -> bool {
     }
 }
 
-/// The end of an opening and the files after it, if its steps come to what they say.
+/// How an opening ends, and the files afterwards; `None` unless its steps end as they say.
 pub(crate) fn staged<F: FileSystem + Drop>(
     alloc: Global,
     fs: F,

@@ -1,4 +1,4 @@
-//! What workers do over files in memory.
+//! Tests of workers over files in memory.
 
 use crate::failing::Failing;
 use crate::{meeting, recovering};
@@ -7,16 +7,16 @@ use raft_memory::{FsCall, MemoryFileSystem};
 use std::alloc::Global;
 use std::thread::Threads;
 
-/// What workers do over files that are fresh.
+/// A test of workers over new files.
 #[derive(Clone, Copy)]
 pub(crate) enum Worked {
-    /// So many read both queues.
+    /// This number of workers reads both queues.
     Both(&'static recovering::Case, usize),
-    /// They read one queue by itself.
+    /// Workers read only one queue.
     Alone(&'static recovering::Case, RecoveryConfig),
-    /// So many read both queues, and the nth call of a sort is refused.
+    /// This number of workers reads both queues, and the nth call of a sort fails.
     Refused(FsCall, u64, usize),
-    /// Two meet in both queues, or in one that is read by itself.
+    /// Two workers meet, in both queues or (if true) in one queue.
     Meeting(bool),
 }
 
@@ -33,7 +33,7 @@ fn works<R: Threads + Sync, F: Failing>(rt: &R, alloc: Global, worked: &Worked) 
     }
 }
 
-/// Whether it comes to what is wanted.
+/// Whether the test passes.
 pub(crate) fn works_in_memory<R: Threads + Sync>(rt: &R, alloc: Global, worked: &Worked) -> bool {
     works::<R, MemoryFileSystem>(rt, alloc, worked)
 }

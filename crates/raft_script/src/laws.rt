@@ -1,4 +1,4 @@
-//! What holds of the numbers of writes that act once.
+//! The law of numbers over runs, crashes and openings.
 ghost use Rattle.std.specs.Prelude.{◌≡◌, ◌++◌, ℕ, List, take};
 ghost use Rattle.raft_records.specs.Contents.{Contents, after_batches};
 ghost use Rattle.raft_records.specs.Item.{Batch};
@@ -7,12 +7,14 @@ ghost use Rattle.raft_script.specs.Batches.{MayBeInFlight};
 ghost use Rattle.raft_script.specs.Numbers.{acts_in};
 ghost use Rattle.raft_script.specs.declared.operation.Op.{Op};
 
-/// The acts of runs join over crashes, so that `raft_once::laws::a_number_acts_once` speaks of all
-/// of them. The batches that an operation has in flight are acts that may be written then
-/// (`flight`). A crash leaves the contents after a prefix of the acts, and these may all be written
-/// (`left`). Acts that may be written at the contents that acts left may be written after them
-/// (`joined`), by the same engine or one that is opened after a crash. So a number whose act is
-/// left does not act again, and one whose act was lost may.
+/// No number of a group acts twice over runs with crashes between them.
+///
+/// The acts of the runs form one list, to which `raft_once::laws::a_number_acts_once` applies. The
+/// batches that an operation has in flight are acts that may be written at that place (`flight`).
+/// A crash leaves the contents after a prefix of the acts, and all acts of the prefix may be
+/// written (`left`). Acts that may be written at these contents may follow them (`joined`), from
+/// the same engine or from one that is opened after the crash. So a number whose act was left
+/// doesn't act again, and a number whose act was lost may act.
 pub fn numbers_act_once_over_crashes()
     ensures flight { (m : Contents) (op : Op) (flight : List Batch) → MayBeInFlight m op flight
         → ∥ MayAllAct m (acts_in op flight) × (are_written (acts_in op flight) ≡ flight) ∥₁ }

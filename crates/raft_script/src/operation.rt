@@ -11,25 +11,25 @@ pub enum Act {
     Delete(u64, Vec<u8>),
     /// Entries with their indexes and bytes.
     Entries(u64, Vec<(u64, Vec<u8>)>),
-    /// The group goes, with its entries and keys.
+    /// Removes the group with its entries and keys.
     Clean(u64),
-    /// The entries below an index go.
+    /// Removes the entries below an index.
     Compact(u64, u64),
 }
 
 /// A call of an engine.
 #[derive(Debug, PartialEq, Eq, Drop)]
 pub enum Op {
-    /// The acts as one batch, with a sync if requested.
+    /// Writes the acts as one batch. The flag requests a sync.
     Write(Vec<Act>, bool),
-    /// The same once: with numbers, each of a group, which act if they are greater than those that
-    /// the groups keep.
+    /// Writes the acts as one batch with pairs of a group and a number. It acts if each number is
+    /// greater than the one that its group keeps. The flag requests a sync.
     WriteOnce(Vec<Act>, Vec<(u64, u64)>, bool),
-    /// Several batches at once, then a sync if one of them requests it.
+    /// Writes several batches, then syncs if one of them requests it.
     WriteGroup(Vec<(Vec<Act>, bool)>),
     Sync,
     Get(u64, Vec<u8>),
-    /// The group's entries below the index go.
+    /// Removes the group's entries below the index.
     CompactTo(u64, u64),
     /// The group's entry with the index.
     Entry(u64, u64),
@@ -39,48 +39,48 @@ pub enum Op {
     Last(u64),
     /// The groups that the engine knows.
     Groups,
-    /// The Append queue up to a watermark is written again; it ends after a step.
+    /// Rewrites the Append queue up to a watermark. It ends after the step that is given.
     RewriteAppend(Option<FileSeq>, Option<u64>),
-    /// The whole Rewrite queue is written again.
+    /// Rewrites the whole Rewrite queue.
     RewriteRewrite,
-    /// Unreferenced files in front are dropped.
+    /// Drops the first files of the queues if nothing refers to them.
     PurgeStale,
-    /// What the queues need is rewritten, and files go; nobody keeps any.
+    /// Purges both queues by watermarks, if they need it. No listener keeps a file.
     Purge,
 }
 
-/// The result of an operation: of a write the length of its record, and 0 if its numbers have
-/// acted.
+/// The result of an operation. `Size` of a write is its record's length in bytes, 0 if its numbers
+/// have already acted.
 #[derive(Debug, PartialEq, Eq, Drop)]
 pub enum Outcome {
     Size(Result<usize, Fault>),
-    /// A group with the result of each of its batches.
+    /// The result of each batch of a write group.
     Sizes(Result<Vec<Result<usize, Fault>>, Fault>),
     Done(Result<(), Fault>),
     Value(Result<Option<Vec<u8>>, Fault>),
-    /// How many entries went.
+    /// The number of removed entries.
     Count(Result<u64, Fault>),
     Entry(Result<Option<TextEntry>, Fault>),
-    /// It says nothing of an engine that had failed.
+    /// The index, if the group has one. After the engine has failed it means nothing.
     Index(Option<u64>),
     Groups(Result<Vec<u64>, Fault>),
-    /// How many log files went.
+    /// The number of dropped log files.
     Dropped(Result<usize, Fault>),
     /// The groups that should be compacted.
     ToCompact(Result<Vec<u64>, Fault>),
 }
 
-/// What a trial showed.
+/// The results of a trial.
 #[derive(Debug, PartialEq, Eq, Drop)]
 pub struct Trial {
     /// Empty if the first opening failed.
     pub outcomes: Vec<Outcome>,
     /// The place, counted from 0, of the operation in which the engine failed.
     pub failed_at: Option<usize>,
-    /// Why the first opening failed, if it did.
+    /// The fault of the first opening; `None` if that succeeded.
     pub refused: Option<Fault>,
-    /// What an opening found that came between two crashes, and was given up; none after one crash.
+    /// What the opening between two crashes found before it was given up; `None` with one crash.
     pub second: Option<Result<Image, Fault>>,
-    /// What the opening after the last crash found.
+    /// What the opening after the last crash found, or its fault.
     pub opened: Result<Image, Fault>,
 }

@@ -1,4 +1,4 @@
-//! Operations one after the other, each with its outcome.
+//! Runs of operations in order, each with its outcome.
 ghost use Rattle.std.specs.Prelude.{All, ◌≡◌, ◌⊎◌, ◌≤◌, ◌^◌, ◌++◌, ℕ, List, true, false, length, map, nat_lt, Some, None, IfOk, IfErr, OnOk, OnErr};
 ghost use Rattle.raft_records.specs.Contents.{Contents, after_batches};
 ghost use Rattle.raft_base.specs.Fault.{fault_code};
@@ -39,32 +39,33 @@ pub(crate) struct RunReport {
     pub failed_at: Option<usize>,
 }
 
-/// Does the operations in order, each with its outcome. If there is no memory for the list of
-/// outcomes, it does not call the engine.
+/// Runs the operations in order and returns the outcome of each. It fails only with `Memory`, if
+/// there is no room for the list of outcomes; then the engine wasn't called.
 ///
-/// The headline is `crash` (docs/READING.md). At each moment of an operation the machine may crash,
-/// and again inside each opening of what is left. A tolerant opening that is not interrupted finds
-/// a prefix of what was accepted before the operation, and perhaps of what it was writing, with all
-/// that a successful sync had covered; or it fails with `Io`, which storage counted, or for lack of
-/// memory. The damage of each crash has to be detectable; whatever it is, such contents are read
-/// first. If the operation has returned and the engine has not failed, it and its files hold all
-/// that was accepted. A failed engine changes no file.
-/// `laws::the_damage_of_an_engine_is_detectable` of the engine says that the premise can be met.
+/// `crash` is the law (docs/READING.md) for such a run. The machine may crash at each moment of an
+/// operation, and again inside each opening that follows. A tolerant opening that isn't
+/// interrupted then finds a prefix of the batches that were accepted before, with all that a
+/// successful sync covered, and perhaps some of the operation's own. Or it fails with `Io`, which
+/// storage counted, or with `Memory`. The premise is that the damage of each crash is detectable;
+/// with any damage these batches are read first. If the operation has returned and the engine
+/// hasn't failed, engine and files hold all accepted batches. A failed engine changes no file. The
+/// engine's `laws::the_damage_of_an_engine_is_detectable` says when the premise is met.
 ///
 /// `once`: over runs, crashes and openings no number of a group acts twice until the group is
-/// cleaned, and each act that a successful sync covered is among those that are found. `ok` speaks
-/// of one list of engines, each of which the operation's own call makes of the one before. It says
-/// what is returned, when the engine fails and what is safe.
+/// cleaned, and each act that a successful sync covered is found.
 ///
-/// Accepted writes are acts (`numbers`), each with its numbers, which are greater than those that
-/// their groups kept: so none acts twice while the group is not cleaned.
+/// `ok`: each operation calls the engine that the operation before left. The clause says what the
+/// operation returns, when the engine fails, and which batches are durable.
+///
+/// `numbers`: accepted writes are acts with numbers, which are greater than those that their
+/// groups kept. So none acts twice while the group isn't cleaned.
 /// `laws::numbers_act_once_over_crashes` joins the acts of runs with crashes between them.
 ///
-/// After the operations exactly the covered batches count as durable, and the others are unsynced.
-/// Storage refused at least as many calls as return `Io`. If all operations are reads, except of
-/// entries, and writes of acts without a batch, the engine does not change. The settings' folders
-/// stay, and so does the engine's note of the files that its opening found; log files that the
-/// opening passed over are as they were.
+/// After the run exactly the covered batches count as durable, and the others as unsynced. Storage
+/// refused at least as many calls as there are results `Io`. Reads, except of entries, and writes
+/// of acts without a batch leave the engine unchanged (`unchanged`). The settings' folders, and
+/// the record of the files that the opening found, stay the same (`folder`, `others`). Log files
+/// that the opening passed over are unchanged (`passed`).
 pub fn run<F: FileSystem>(
     alloc: Global,
     engine: &mut Engine<F>,
@@ -85,7 +86,7 @@ pub fn run<F: FileSystem>(
     Ok(run_watched(alloc, engine, ops)?.outcomes)
 }
 
-/// The same, with the place of the operation in which the engine failed.
+/// Like `run`, and says in which operation the engine failed.
 pub(crate) fn run_watched<F: FileSystem>(
     alloc: Global,
     engine: &mut Engine<F>,
@@ -127,7 +128,8 @@ pub(crate) fn run_watched<F: FileSystem>(
     })
 }
 
-// What a crash leaves that is allowed comes back, however often it crashes in openings.
+// The contents that a crash may leave are found again, however often openings are interrupted by
+// crashes.
 pub(crate) fn crashes_come_back<F: FileSystem>()
     ensures { CrashesComeBack F.FileSystem }
 {
@@ -143,7 +145,7 @@ fn last_number_stands<F: FileSystem>(engine: &Engine<F>)
     engine.file_span(LogQueue::Append);
 }
 
-/// Does one operation, as `run` does each of its own.
+/// Runs one operation and returns its outcome. Each operation of `run` is such a step.
 pub fn step<F: FileSystem>(alloc: Global, engine: &mut Engine<F>, op: &Op) -> Outcome
     ensures value { IsAnswerOf op.now result engine.old engine.new }
     ensures failed { IsFailing (has_failed engine.old) op.now result (has_failed engine.new) }
@@ -162,7 +164,7 @@ pub fn step<F: FileSystem>(alloc: Global, engine: &mut Engine<F>, op: &Op) -> Ou
     match op {
         Op::Write(acts, sync) => match build(alloc, acts) {
             Ok(mut batch) => Outcome::Size(engine.write(&mut batch, *sync)),
-            // What is refused while the batch is built doesn't reach the engine.
+            // A fault while the batch is built doesn't reach the engine.
             Err(fault) => Outcome::Size(Err(fault)),
         },
         Op::WriteOnce(acts, pairs, sync) => match build(alloc, acts) {
@@ -192,7 +194,7 @@ pub fn step<F: FileSystem>(alloc: Global, engine: &mut Engine<F>, op: &Op) -> Ou
     }
 }
 
-// Each number has eight bytes, as its type says: they are read for that alone.
+// Each number has eight bytes, by its type. The loop reads them only to show that.
 fn numbers_fit(pairs: &[(u64, u64)])
     ensures { are_numbers pairs.now ≡ true }
 {
@@ -205,7 +207,7 @@ fn number_fits(number: u64)
     ensures { nat_lt number (2 ^ 64) ≡ true }
 {}
 
-// The batches of a group, and which of them ask for a sync.
+// The batches of a write group, and the flags that request a sync.
 fn build_group(
     alloc: Global,
     parts: &[(Vec<Act>, bool)],
@@ -256,7 +258,7 @@ fn add(alloc: Global, batch: &mut LogBatch, act: &Act) -> Result<(), Fault>
     }
 }
 
-// The entries as one item, and nothing for none.
+// Adds the entries as one item, if there are any.
 fn add_entries(
     alloc: Global,
     batch: &mut LogBatch,

@@ -101,7 +101,7 @@ fn index_len(bytes: &[u8]) -> usize
     len
 }
 
-// The number that is printed so: zeros before a number aren't printed.
+// The number that is printed as these digits; `None` for digits with a leading zero.
 fn parse_index(digits: &[u8]) -> Option<u64>
     ensures value { MatchOption result
         ((number : ℕ) → number < 2 ^ 64 → digits.now ≡ decimal number → ⊥)

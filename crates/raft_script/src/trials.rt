@@ -1,4 +1,4 @@
-//! Operations over files in memory, then a crash, then an opening.
+//! Trials: operations over files in memory, then a crash, then an opening.
 ghost use Rattle.std.specs.Prelude.{◌≡◌, ◌⊎◌, None, List, [], ◌∷◌, ◌++◌, IfOk, IfErr};
 ghost use Rattle.raft_base.specs.Fault.{fault_code};
 ghost use Rattle.raft_env.specs.Directory.{Directory};
@@ -26,20 +26,27 @@ use raft_queue_laws::queue::{a_queue_recovers_its_batches, crash_leaves_a_prefix
 use raft_records::Fault;
 use std::alloc::Global;
 
-/// Opens a log in memory, does the operations, crashes, and opens again. From the first opening on
-/// the calls that may change files are counted from 1, and each from the one at `stop` on fails.
-/// The opening after the crash has no stop, and at each moment of it the folders keep what they
-/// kept. If the first opening fails no operation is done, and the trial says why: settings
-/// contradict one another, a storage call failed, or memory ran out. The choices say what the crash
-/// leaves; bytes that storage does not allow are refused. If the damage of what the crash leaves is
-/// detectable, a tolerant opening fails only by storage or for lack of memory; any other opening
-/// also for what is left of the log, or if settings contradict one another. Only a failed first
-/// opening requires that no folder has the path of a log file (`HaveNoLogPath`). The damage is
-/// detectable if no engine failed, nothing decodes that a last log file held when it was renamed,
-/// and the choices leave each file whole, as it is at the crash or as it was synced. It is
-/// detectable too, whatever failed and for torn files, if the last log files were never renamed, no
-/// call brought a record except its own, and they are read as they were at a moment since their
-/// last sync.
+/// Opens a log in memory, runs the operations, crashes, and opens the log again.
+///
+/// The calls that may change files are counted from 1, from the first opening on; with `stop` that
+/// call and each later one fails. The opening after the crash has no stop, and at each of its
+/// moments the folders keep what they kept. If the first opening fails, no operation is run, and
+/// the trial says why: settings contradict each other, a storage call failed, or memory ran out.
+/// `choices` say what the crash leaves of each file.
+///
+/// A trial fails with `InvalidArgument` if the contract of storage doesn't allow the chosen bytes,
+/// and otherwise only with `Memory`.
+///
+/// If the damage of the crash is detectable, a tolerant opening fails only by storage or out of
+/// memory. Other openings may also fail because of the log's state or of settings that contradict
+/// each other. Only a failed first opening requires that no folder has the path of a log file
+/// (`HaveNoLogPath`).
+///
+/// The damage is detectable in two cases. First, if no engine failed, nothing decodes that a last
+/// log file held when it was renamed, and the choices leave each file whole, as at the crash or as
+/// at its last sync. Second, for any failures and torn files, if the last log files were never
+/// renamed, each record was brought by its own call, and the files are read as at a moment since
+/// their last sync.
 pub fn trial(
     alloc: Global,
     config: Config,
@@ -65,11 +72,11 @@ pub fn trial(
     })
 }
 
-/// As `trial`, but the opening after the crash is given up: from the call at `again` on, counted
-/// from 1, each of its calls that may change files fails. Then the files crash by `more`, and the
-/// last opening, which has no stop, finds what they hold. If the damage of both crashes is
-/// detectable, that is what the first crash left: a recovery may be interrupted anywhere and loses
-/// nothing.
+/// Like `trial`, with a second crash in the opening after the first one. From the call `again` on,
+/// counted from 1, each call of that opening that may change files fails. Then the opening is
+/// given up, the files crash by `more`, and the last opening, without a stop, finds what they
+/// hold. If the damage of both crashes is detectable, it finds what the first crash left: a
+/// recovery may be interrupted anywhere and loses nothing.
 pub fn trial_twice(
     alloc: Global,
     config: Config,
@@ -106,7 +113,7 @@ pub fn trial_twice(
     })
 }
 
-// Opens the log over new files, does the operations, and crashes.
+// Opens the log over new files, runs the operations, and crashes.
 fn crashed(
     alloc: Global,
     config: Config,
@@ -132,8 +139,8 @@ fn crashed(
     Ok((ran, refused, left))
 }
 
-/// A single folder never has the path of a log file or of a reserved one: everything that is said
-/// of a trial holds for it.
+/// If the settings have one folder, no folder has the path of a log file or of a reserved one. So
+/// each statement on trials holds.
 pub fn a_folder_alone_has_no_log_path()
     ensures one { (folders : Folders) → folders.spill ≡ None → HaveNoLogPath folders }
 {}
@@ -146,7 +153,7 @@ fn new_files(alloc: Global, stop: Option<u64>) -> MemoryFileSystem
     stopped(MemoryFileSystem::new(alloc), stop)
 }
 
-// The files with a stop, if one is given.
+// The files, which fail from the call `stop` on, if it is given.
 fn stopped(mut files: MemoryFileSystem, stop: Option<u64>) -> MemoryFileSystem
     ensures unchanged { memory_directory result ≡ memory_directory files }
     ensures any_moment { memory_moments result ≡ memory_moments files }
@@ -158,7 +165,7 @@ fn stopped(mut files: MemoryFileSystem, stop: Option<u64>) -> MemoryFileSystem
     files
 }
 
-// Opens the log, does the operations, and hands the files back as they are then.
+// Opens the log, runs the operations, and returns the files as they are then.
 fn run_over<F: FileSystem + Drop>(
     alloc: Global,
     config: Config,
@@ -205,7 +212,7 @@ fn run_over<F: FileSystem + Drop>(
     }
 }
 
-// What an opening finds, without the groups' numbers, and the files as it left them.
+// The image that an opening finds, without the groups' numbers, and the files afterwards.
 fn open_and_give_up<F: FileSystem + Drop>(
     alloc: Global,
     config: Config,

@@ -6,22 +6,22 @@ use raft_log_engine::{Fault, LogBatch};
 use std::alloc::Global;
 use std::sync::Arc;
 
-/// A call, with copies of its arguments. Batches are boxed, so that other calls stay small.
+/// A call, with copies of its arguments. Batches are boxed, so that the other variants stay small.
 #[derive(Drop)]
 pub enum Call {
-    /// A batch, and whether it is synced.
+    /// A batch, and whether the call requests a sync.
     Write(Box<LogBatch>, bool),
-    /// .. with groups and their numbers.
+    /// The same with pairs of a group and its number.
     WriteOnce(Box<LogBatch>, Vec<(u64, u64)>, bool),
     Sync,
-    /// A purge by watermarks, with its barrier.
+    /// A purge by watermarks, and the first file that it may not drop.
     Purge(u64),
     Get(u64, Vec<u8>),
     First(u64),
     Last(u64),
 }
 
-/// The result of a call. A fault of a file names no path.
+/// The result of a call. A fault of a file has no path.
 #[derive(Drop)]
 pub enum Reply {
     Size(Result<usize, Fault>),
@@ -30,10 +30,10 @@ pub enum Reply {
     Index(Option<u64>),
 }
 
-/// The one copy of a call, which the history, the seat and the caller share.
+/// The only copy of a call, which the history, the seat and the caller share.
 pub type SharedCall = Arc<Call, Global>;
 
-/// .. and of a value that was found.
+/// The only copy of a value that was found.
 pub type SharedBytes = Arc<Vec<u8>, Global>;
 
 /// A call of the history, with its result.
@@ -44,7 +44,7 @@ pub struct Recorded {
     pub reply: Reply,
 }
 
-/// A call as its seat records it.
+/// A call as its seat keeps it.
 #[derive(Drop)]
 pub struct Receipt {
     /// Its place in the history, counted from 0.
@@ -53,11 +53,12 @@ pub struct Receipt {
     pub reply: Reply,
 }
 
-/// The result of a purge.
+/// The result of a purge by watermarks.
 #[derive(Drop)]
 pub struct Purged {
     pub receipt: Receipt,
-    /// The groups that should be compacted, which the history does not have. None after a failure.
+    /// The groups that the caller should compact; empty if the purge failed. The history doesn't
+    /// keep them.
     pub asked: Vec<u64>,
 }
 
@@ -65,7 +66,7 @@ impl Reply {
     ghost use Rattle.raft_shared.specs.History.{Done, Size, Value};
     ghost use Rattle.raft_shared.specs.Words.{answer_of};
 
-    /// The reply of a write. It takes no memory.
+    /// The reply of a write. It needs no memory.
     pub(crate) fn of_size(alloc: Global, size: &Result<usize, Fault>) -> Reply
         ensures value { answer_of result ≡ Size (answer_by (λ n. n) size.now) }
     {
@@ -75,7 +76,7 @@ impl Reply {
         })
     }
 
-    /// The reply of a sync. It takes no memory.
+    /// The reply of a sync. It needs no memory.
     pub(crate) fn of_sync(alloc: Global, done: &Result<(), Fault>) -> Reply
         ensures value { answer_of result ≡ Done (answer_by (λ _. tt) done.now) }
     {
@@ -85,7 +86,7 @@ impl Reply {
         })
     }
 
-    /// The reply of a purge. It takes no memory.
+    /// The reply of a purge. It needs no memory.
     pub(crate) fn of_purge(alloc: Global, purged: &Result<Vec<u64>, Fault>) -> Reply
         ensures value { answer_of result ≡ Done (answer_by (λ _. tt) purged.now) }
     {
@@ -95,7 +96,7 @@ impl Reply {
         })
     }
 
-    /// The reply of a look-up.
+    /// The reply of a `get`.
     pub(crate) fn of_value(
         alloc: Global,
         value: &Result<Option<SharedBytes>, Fault>,
@@ -111,7 +112,7 @@ impl Reply {
         }))
     }
 
-    /// .. which keeps its value. It takes no memory.
+    /// The reply of a `get`, which keeps the value. It needs no memory.
     pub(crate) fn with_value(alloc: Global, value: Result<Option<SharedBytes>, Fault>) -> Reply
         ensures value { answer_of result ≡ Value (answer_by (option_map shared_bytes) value) }
     {
@@ -122,7 +123,7 @@ impl Reply {
     }
 }
 
-// A value that was found, to be shared. Without memory for it the value is let go.
+// A shared copy of the value that was found. If memory runs out, the value is dropped.
 pub(crate) fn shared_value(
     alloc: Global,
     value: Result<Option<Vec<u8>>, Fault>,
@@ -138,7 +139,7 @@ pub(crate) fn shared_value(
     })
 }
 
-// The fault, of a file without its path. It takes no memory.
+// The fault, without the path of its file. It needs no memory.
 fn without_path(alloc: Global, fault: &Fault) -> Fault
     ensures value { reason_of result ≡ without_path (reason_of fault.now) }
 {

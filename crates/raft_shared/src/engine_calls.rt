@@ -1,4 +1,4 @@
-//! Calls of the engine, with all that it says of each in one relation.
+//! The engine's calls, each with its whole contract in one relation.
 ghost use Rattle.raft_log_engine.specs.Calls.{IsCallersWrite, IsSync};
 ghost use Rattle.raft_log_engine.specs.Once.{IsWriteOnce};
 ghost use Rattle.raft_log_engine.specs.PurgeCalls.{IsExpiry};

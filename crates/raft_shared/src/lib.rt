@@ -1,4 +1,4 @@
-//! One engine for many threads: its calls, seat by seat, beside the history that they make.
+//! One engine for many threads: its calls, made from seats, and the history of these calls.
 #![tactic(auto)]
 
 mod call;

@@ -1,11 +1,11 @@
-//! Seats at a shared engine.
+//! The seats of a shared engine. A thread makes its calls from its seat.
 ghost use Rattle.std.specs.Prelude.{◌≡◌, [], ◌∷◌, ◌++◌, ◌+◌, ◌<◌, ◌≤◌, vec_len, vec_capacity, OnOk, IfErr};
 
 use crate::call::Receipt;
 use raft_log_engine::Fault;
 use std::alloc::Global;
 
-/// Whoever makes calls, with the receipts of these. Contracts see it as its number and its receipts.
+/// A seat keeps the receipts of its calls. Contracts see it as its number and its receipts.
 #[derive(Drop)]
 pub struct Seat {
     number: usize,
@@ -22,14 +22,15 @@ impl Seat {
         }
     }
 
-    /// Seats are numbered from 0, in the order in which they are given.
+    /// The number of the seat. Seats are numbered from 0, in the order in which `Shared::seat`
+    /// returns them.
     pub fn number(&self) -> usize
         ensures value { result ≡ self.now.number }
     {
         self.number
     }
 
-    /// The receipts of its calls, the first one first.
+    /// The receipts of the seat's calls, in order.
     pub fn receipts(&self) -> &[Receipt]
         ensures value { result.now ≡ self.now.receipts.items }
     {

@@ -1,4 +1,4 @@
-//! Whether the receipts of seats are the calls of a history, each once.
+//! Whether the receipts of seats are exactly the calls of a history.
 ghost use Rattle.std.specs.Prelude.{◌≡◌, ◌↔◌, map, option_map, IsTrue};
 ghost use Rattle.std.specs.Arc.{arc_value};
 ghost use Rattle.raft_shared.specs.Settled.{AreSettled, seats_with};
@@ -9,7 +9,8 @@ use crate::call::{Call, Receipt, Recorded, Reply, SharedBytes};
 use crate::seat::Seat;
 use raft_log_engine::Fault;
 
-/// Whether each seat has the receipts of its calls, in order, and each call is of exactly one seat.
+/// Whether each seat has the receipts of its calls, in order, and each call belongs to exactly one
+/// seat.
 pub fn are_settled(seats: &[Seat], trail: &[Recorded]) -> bool
     ensures value { IsTrue result ↔ AreSettled seats.now (map event_of trail.now) }
 {
@@ -26,7 +27,7 @@ pub fn are_settled(seats: &[Seat], trail: &[Recorded]) -> bool
     true
 }
 
-// Whether the receipts of a seat are its calls, in order, each at its number.
+// Whether the seat's receipts are its calls in the history, in order, each with its number.
 fn has_its_calls(seat: &Seat, trail: &[Recorded]) -> bool
     ensures value { IsTrue result
         ↔ (receipts_of seat.now ≡ calls_of seat.now.number 0 (map event_of trail.now)) }
@@ -45,7 +46,7 @@ fn has_its_calls(seat: &Seat, trail: &[Recorded]) -> bool
     next == receipts.len()
 }
 
-// How many seats have the number.
+// The number of seats with this number.
 fn count_with(seats: &[Seat], number: usize) -> usize
     ensures value { result ≡ seats_with number seats.now }
 {
@@ -58,7 +59,7 @@ fn count_with(seats: &[Seat], number: usize) -> usize
     count
 }
 
-// Whether a receipt is that of a call at this number.
+// Whether it is the receipt of the call with this number.
 fn is_of(receipt: &Receipt, number: usize, recorded: &Recorded) -> bool
     ensures value { IsTrue result ↔ ((receipt.now.number ≡ number)
         × (asked_of (arc_value receipt.now.call) ≡ asked_of (arc_value recorded.now.call))
@@ -120,7 +121,7 @@ fn is_same_value(a: &Option<SharedBytes>, b: &Option<SharedBytes>) -> bool
     }
 }
 
-// Whether faults are the same, except for the text of a refused argument.
+// Whether two faults are equal, except for the text of an invalid argument.
 fn is_same_fault(a: &Fault, b: &Fault) -> bool
     ensures value { IsTrue result ↔ (reason_of a.now ≡ reason_of b.now) }
 {

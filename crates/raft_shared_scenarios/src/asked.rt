@@ -1,4 +1,4 @@
-//! What seats ask for, and what they are told.
+//! The calls that seats make, and their results.
 
 use raft_log_engine::{Fault, LogBatch};
 use raft_records::EntryIndex;
@@ -7,7 +7,7 @@ use std::alloc::Global;
 
 pub(crate) enum Ask {
     Put(u64, &'static [u8], &'static [u8]),
-    /// A value at the key k of group 1, with numbers of groups, synced.
+    /// A synced put at the key k of group 1, with numbers of groups.
     PutOnce(&'static [u8], &'static [(u64, u64)]),
     /// Entries of group 1 with these indexes, each without bytes.
     Entries(&'static [u64]),
@@ -22,7 +22,7 @@ pub(crate) enum Told {
     Done,
     Value(Option<&'static [u8]>),
     Index(Option<u64>),
-    /// It was refused with this code.
+    /// A fault with this code.
     Refused(u8),
 }
 
@@ -65,7 +65,7 @@ pub(crate) fn batch_of(alloc: Global, ask: &Ask) -> Result<LogBatch, Fault> {
     }
 }
 
-/// The fault that a call was refused with.
+/// The fault in a reply.
 fn fault_of(reply: &Reply) -> Option<&Fault> {
     match reply {
         Reply::Size(size) => size.as_ref().err(),

@@ -1,4 +1,4 @@
-//! Calls of seats at a shared engine, what each returns, and whether the history can be finished.
+//! Calls from seats of a shared engine, their results, and whether the history can be finished.
 
 use crate::asked::{Ask, Told};
 use crate::seated::{Faulty, Seated};
@@ -13,16 +13,16 @@ const GET_K: Ask = Ask::Get(1, b"k");
 
 const FOUND: Told = Told::Value(Some(b"v"));
 
-/// The length of the record of a put of one byte at a key of one byte: the header has 16 bytes, and the
-/// rest one for the number of items, the group, the kind of the item and of the command, each length,
-/// the key and the value, and 4 for the checksum.
+/// The length of the record of a put of one byte at a key of one byte: 16 bytes of header, one
+/// byte each for the number of items, the group, the kinds of the item and of the command, both
+/// lengths, the key and the value, and 4 bytes of checksum.
 const PUT_LEN: Told = Told::Size(28);
 
-/// .. and of one with a number: its item has the group, the two kinds, the lengths, a key of five bytes
+/// The same with a number: its item has the group, both kinds, both lengths, a key of five bytes
 /// and a value of eight.
 const ONCE_LEN: Told = Told::Size(46);
 
-/// The key at which a group keeps its number.
+/// The key under which a group's number is kept.
 const NUMBER_KEY: &[u8] = &[0xff, b'o', b'n', b'c', b'e'];
 
 static STORIES: [Story; 11] = [
@@ -232,7 +232,7 @@ static STORIES: [Story; 11] = [
     },
 ];
 
-// The table is named by a function of its own, since a proof has all of it at each step.
+// The table is named by its own function, since a proof has the whole table at each step.
 fn all_stories() -> &'static [Story] {
     STORIES.as_slice()
 }

@@ -1,4 +1,4 @@
-//! Tests of a shared engine: threads over it, and its history.
+//! Tests of a shared engine: its history, with and without threads.
 #![tactic(auto)]
 
 #[cfg(test)]

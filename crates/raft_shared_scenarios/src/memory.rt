@@ -1,5 +1,5 @@
-//! Calls of a shared engine for which memory is refused. With ample memory each is done. With the
-//! Nth request refused (`tools/fail-alloc`, `rt try --test --fail-alloc N`) a call that fails has
+//! Calls of a shared engine while memory is refused. With enough memory each succeeds. If the Nth
+//! request is refused (`tools/fail-alloc`, `rt try --test --fail-alloc N`), a call that fails has
 //! recorded nothing, and can be made again.
 
 use crate::asked::Ask;
@@ -9,20 +9,20 @@ use raft_shared::{Receipt, Reply, Seat};
 use std::alloc::Global;
 use std::test::Fail;
 
-/// How many receipts the calls are to give.
+/// The number of receipts that the calls must give.
 const CALLS: usize = 3;
 
 static ASKED: [Ask; CALLS] = [Ask::Put(1, b"k", b"v"), Ask::Get(1, b"k"), Ask::Last(1)];
 
-/// What became of a call.
+/// The outcome of a call.
 #[derive(Clone, Copy, PartialEq)]
 enum Made {
     Done,
-    /// The put was recorded, and failed for lack of memory.
+    /// The put was recorded, and failed out of memory.
     Refused,
-    /// There was no memory.
+    /// The call failed out of memory.
     Failed,
-    /// A call came to what none may.
+    /// The call had an outcome that isn't possible.
     Wrong,
 }
 
@@ -63,7 +63,8 @@ fn have_receipts(seats: &[Seat], count: usize) -> bool {
     }
 }
 
-// A call is made once more if it fails, which it may only for lack of memory, and leaves the seat as it was.
+// Makes a call, and again if it fails. It may only fail out of memory, and then leaves the seat
+// unchanged.
 fn made_at<F: Faulty>(alloc: Global, seated: &mut Seated<F>, number: usize, ask: &Ask) -> Made {
     let made = made_of(seated.ask(alloc, 0, ask), number);
     if made == Made::Failed && have_receipts(&seated.seats, number) {
@@ -73,7 +74,7 @@ fn made_at<F: Faulty>(alloc: Global, seated: &mut Seated<F>, number: usize, ask:
     }
 }
 
-// What became of the put, if nothing is wrong with another call.
+// The outcome of the put, unless another call had a wrong one.
 fn put_made<F: Faulty>(alloc: Global, seated: &mut Seated<F>) -> Made {
     let mut put = Made::Done;
     for (number, ask) in ASKED.iter().enumerate() {
@@ -88,8 +89,8 @@ fn put_made<F: Faulty>(alloc: Global, seated: &mut Seated<F>) -> Made {
     put
 }
 
-// Whether the engine has what the put left: its value, or nothing if it failed. Of one that
-// has failed for lack of memory, or has none for its image, nothing is asked.
+// Whether the engine has the put's value, or no value if the put failed. If the engine failed out
+// of memory, or has no memory for its image, everything is accepted.
 fn is_left(keys: Option<usize>, put: Made) -> bool {
     match keys {
         Some(keys) => keys == if put == Made::Done { 1 } else { 0 },
@@ -97,8 +98,8 @@ fn is_left(keys: Option<usize>, put: Made) -> bool {
     }
 }
 
-// Whether each call is recorded once, also if one of its requests for memory was refused, and the
-// engine has what they left; or there was no memory before the calls.
+// Whether each call is recorded once, also if a request for memory was refused, and the engine has
+// their results; or memory ran out before the calls.
 fn holds_at<F: Faulty>(alloc: Global, seated: &mut Seated<F>) -> bool {
     if !seated.begin(alloc, false, CALLS, 1) {
         return seated.code == MEMORY;

@@ -1,4 +1,4 @@
-//! An engine over files in memory that is shared, and its seats.
+//! A shared engine over files in memory, and its seats.
 
 use crate::asked::{Ask, batch_of, put_of};
 use raft_log_engine::{Config, Engine, Fault, FileSystem, Fresh, FsCall, IoKind, MemoryFileSystem};
@@ -6,14 +6,14 @@ use raft_shared::{Finished, Receipt, Recorded, Seat, Shared, Unfinished};
 use std::alloc::Global;
 use std::mem;
 
-/// Files that fail and crash as they are told.
+/// Files whose calls fail, and that crash, on request.
 pub(crate) trait Faulty: FileSystem + Drop {
     fn fresh(alloc: Global) -> Self;
 
     /// The next sync fails.
     fn refuse_sync(engine: &mut Engine<Self>) -> Result<(), Fault>;
 
-    /// What a crash leaves of each file: what was synced.
+    /// Crashes the files: each keeps only its synced bytes.
     fn crash_to_synced(&mut self) -> Result<(), Fault>;
 }
 
@@ -32,10 +32,10 @@ impl Faulty for MemoryFileSystem {
     }
 }
 
-/// The code of a `Fault` for lack of memory.
+/// The code of `Fault::Memory`.
 pub(crate) const MEMORY: u8 = 12;
 
-/// Where the files are.
+/// The files, an engine over them, or a shared engine.
 #[derive(Drop)]
 enum Stage<F: FileSystem> {
     Files(F),
@@ -84,7 +84,7 @@ fn seats_of<F: FileSystem>(
     Ok(seats)
 }
 
-/// A shared engine over files, for so many calls, and so many seats.
+/// Shares an engine over files, for this number of calls and seats.
 pub(crate) fn share<F: FileSystem + Drop>(
     alloc: Global,
     files: F,
@@ -101,7 +101,7 @@ pub(crate) fn share<F: FileSystem + Drop>(
     }
 }
 
-// The proof of a drop is long, so that what holds an engine ends by calls.
+// An engine is dropped by calls, since the proof of a drop is long.
 fn files_of<F: FileSystem>(alloc: Global, stage: Stage<F>) -> Option<F> {
     match stage {
         Stage::Files(files) => Some(files),
@@ -111,20 +111,20 @@ fn files_of<F: FileSystem>(alloc: Global, stage: Stage<F>) -> Option<F> {
     }
 }
 
-/// An engine and its seats, and what came of them.
+/// An engine, its seats, and the results of sharing.
 #[derive(Drop)]
 pub(crate) struct Seated<F: FileSystem> {
     stage: Stage<F>,
     pub(crate) seats: Vec<Seat>,
-    /// Once the seats were handed over: how many calls the history has, and the code of the fault and how many seats came
-    /// back, if they are refused.
+    /// The number of calls in the history after the seats were handed over. If they were refused,
+    /// `refused` has the fault's code and the number of seats that were returned.
     pub(crate) calls: usize,
     pub(crate) refused: Option<(u8, usize)>,
-    /// The code of the fault for which the engine could not be opened or shared.
+    /// The code of the fault with which opening or sharing failed.
     pub(crate) code: u8,
 }
 
-/// How many keys the groups hold, if the engine hasn't failed.
+/// The number of keys of all groups; `None` if the engine has failed.
 fn keys_in<F: FileSystem>(engine: &mut Engine<F>) -> Option<usize> {
     match engine.image() {
         Ok(image) => {
@@ -138,14 +138,14 @@ fn keys_in<F: FileSystem>(engine: &mut Engine<F>) -> Option<usize> {
     }
 }
 
-/// How many keys the groups of an engine hold that then ends.
+/// The same, and gives up the engine.
 pub(crate) fn last_keys<F: FileSystem + Drop>(mut engine: Engine<F>) -> Option<usize> {
     let keys = keys_in(&mut engine);
     engine.give_up();
     keys
 }
 
-/// Writes the batch that a call asks for, and doesn't sync it.
+/// Writes the call's batch without a sync.
 fn write<F: FileSystem>(
     alloc: Global,
     shared: &mut Shared<F>,
@@ -216,7 +216,7 @@ impl<F: Faulty> Seated<F> {
         }
     }
 
-    /// Ends it by calls.
+    /// Drops it by calls.
     pub(crate) fn end(self, alloc: Global) {
         files_of(alloc, self.stage);
     }
@@ -246,7 +246,7 @@ impl<F: Faulty> Seated<F> {
         }
     }
 
-    // The next sync fails, if that is said.
+    // Lets the next sync fail if the flag is set.
     fn arm(&mut self, is_sync_refused: bool) -> bool {
         match &mut self.stage {
             Stage::Alone(engine) => !is_sync_refused || F::refuse_sync(engine).is_ok(),
@@ -309,8 +309,8 @@ impl<F: Faulty> Seated<F> {
         true
     }
 
-    /// Shares an engine over new files, for so many calls, with so many seats. The first sync after the
-    /// opening fails if that is said.
+    /// Shares an engine over new files, for this number of calls and seats. The first sync after
+    /// the opening fails if the flag is set.
     pub(crate) fn begin(
         &mut self,
         alloc: Global,
@@ -325,7 +325,7 @@ impl<F: Faulty> Seated<F> {
             && self.take_seats(count)
     }
 
-    /// Whether an engine over new files that has a key comes back with it if there is no memory for so many calls.
+    /// Whether an engine with a key is returned if memory for this number of calls runs out.
     pub(crate) fn comes_back(&mut self, alloc: Global, limit: usize) -> bool {
         self.hold(alloc, Stage::Files(F::fresh(alloc)));
         self.open(alloc)
@@ -342,7 +342,8 @@ impl<F: Faulty> Seated<F> {
         }
     }
 
-    /// Asks by the seat of this number, which no story lacks. Writes without numbers aren't synced.
+    /// Makes a call from the seat of this number, which exists in each story. Writes without
+    /// numbers have no sync.
     pub(crate) fn ask(&mut self, alloc: Global, seat: usize, ask: &Ask) -> Result<Receipt, Fault> {
         let Some(seat) = self.seats.get_mut(seat) else {
             return Err(Fault::Failed);
@@ -358,7 +359,7 @@ impl<F: Faulty> Seated<F> {
         self.hold(alloc, Stage::Alone(engine));
     }
 
-    /// Hands the seats over.
+    /// Hands over the seats and finishes the history.
     pub(crate) fn hand_over(&mut self, alloc: Global) {
         match mem::replace(&mut self.stage, Stage::Nothing) {
             Stage::Shared(shared) => self.finish(alloc, shared),
@@ -387,7 +388,7 @@ impl<F: Faulty> Seated<F> {
         }
     }
 
-    /// How many keys the engine holds, if it hasn't failed.
+    /// The number of keys of the engine; `None` if it has failed.
     pub(crate) fn keys(&mut self) -> Option<usize> {
         match &mut self.stage {
             Stage::Alone(engine) => keys_in(engine),
@@ -404,7 +405,7 @@ impl<F: Faulty> Seated<F> {
         is_crashed
     }
 
-    /// Whether the key k of group 1 has this value once a crash has left what was synced.
+    /// Whether the key k of group 1 has this value after a crash that leaves only synced bytes.
     pub(crate) fn has_synced(&mut self, alloc: Global, wanted: Option<&[u8]>) -> bool {
         if !self.crash(alloc) || !self.open(alloc) {
             return false;

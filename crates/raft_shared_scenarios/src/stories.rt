@@ -1,5 +1,5 @@
-//! Stories as rows of tables: calls of seats at a shared engine over new files, what each returns, and
-//! what there is at the end.
+//! Stories as rows of tables: calls from seats of a shared engine over new files, their results,
+//! and the state at the end.
 
 use crate::asked::{Ask, Told, is_told};
 use crate::seated::{Faulty, Seated};
@@ -9,9 +9,9 @@ use std::alloc::Global;
 use std::mem;
 
 pub(crate) enum Step {
-    /// The seat of this number asks, and is told this by the receipt of this number.
+    /// The seat, its call, the number of the receipt, and the result.
     Answered(usize, Ask, usize, Told),
-    /// .. and nothing is recorded, but it fails with this code.
+    /// The seat, its call, and the code with which it fails. Nothing is recorded.
     Fails(usize, Ask, u8),
 }
 
@@ -19,7 +19,7 @@ pub(crate) struct Story {
     pub(crate) name: &'static str,
     /// Whether the first sync after the opening fails.
     pub(crate) is_sync_refused: bool,
-    /// How many calls the history may have.
+    /// The most calls of the history.
     pub(crate) limit: usize,
     pub(crate) seats: usize,
     pub(crate) steps: &'static [Step],
@@ -27,23 +27,23 @@ pub(crate) struct Story {
     pub(crate) end: End,
 }
 
-/// Which seats are handed over at the end.
+/// The seats that are handed over at the end.
 pub(crate) enum Handed {
-    /// So many, the first ones.
+    /// The first ones, as many as this number.
     First(usize),
-    /// The seats of another engine, as many of it, which made these calls.
+    /// The seats of another engine, which made these calls there; as many seats as the story has.
     OfOther(&'static [Step]),
 }
 
-/// What there is at the end.
+/// The state at the end.
 pub(crate) struct End {
-    /// With which code the seats are refused.
+    /// The code with which the seats are refused.
     pub(crate) refusal: Option<u8>,
-    /// How many calls the history has.
+    /// The number of calls in the history.
     pub(crate) calls: usize,
-    /// How many keys the engine holds, if it hasn't failed.
+    /// The number of keys of the engine; `None` if it has failed.
     pub(crate) keys: Option<usize>,
-    /// The value at the key k of group 1, once a crash has left what was synced.
+    /// The value at the key k of group 1 after a crash that leaves only synced bytes.
     pub(crate) synced: Option<&'static [u8]>,
 }
 
@@ -69,7 +69,7 @@ fn is_so(step: &Step, answer: Result<Receipt, Fault>) -> bool {
     }
 }
 
-// The place of the first step that comes to something else.
+// The index of the first step with another result.
 fn wrong_step<F: Faulty>(alloc: Global, seated: &mut Seated<F>, steps: &[Step]) -> Option<usize> {
     for (place, step) in steps.iter().enumerate() {
         let answer = seated.ask(alloc, seat_of(step), ask_of(step));
@@ -84,7 +84,8 @@ fn begins<F: Faulty>(alloc: Global, seated: &mut Seated<F>, story: &Story) -> bo
     seated.begin(alloc, story.is_sync_refused, story.limit, story.seats)
 }
 
-// Leaves the seats that are handed over: whether the calls of another engine's hold.
+// Puts the seats that are handed over in place. Returns whether the calls on another engine had
+// their results.
 fn choose_seats<F: Faulty>(
     alloc: Global,
     seated: &mut Seated<F>,
@@ -105,7 +106,7 @@ fn choose_seats<F: Faulty>(
     }
 }
 
-// With a refusal all seats that were handed over come back.
+// If the history is refused, all seats that were handed over are returned.
 fn is_refusal(refused: Option<(u8, usize)>, wanted: Option<u8>, handed: usize) -> bool {
     match (refused, wanted) {
         (Some((code, back)), Some(wanted)) => code == wanted && back == handed,
@@ -114,8 +115,8 @@ fn is_refusal(refused: Option<(u8, usize)>, wanted: Option<u8>, handed: usize) -
     }
 }
 
-// Whether the seats are handed over as the story says, and the engine has so many keys, and once a crash
-// has left what was synced this value at the key k of group 1.
+// Whether the history ends as the story says, the engine has this number of keys, and the key k of
+// group 1 has this value after a crash that leaves only synced bytes.
 fn ends_so<F: Faulty>(alloc: Global, seated: &mut Seated<F>, wanted: &End) -> bool {
     let handed = seated.seats.len();
     seated.hand_over(alloc);
@@ -125,7 +126,7 @@ fn ends_so<F: Faulty>(alloc: Global, seated: &mut Seated<F>, wanted: &End) -> bo
         && seated.has_synced(alloc, wanted.synced)
 }
 
-/// The place of the first step that comes to something else; the end comes after all steps.
+/// The index of the first step with another result; the end counts as the step after the last.
 pub(crate) fn wrong_place<F: Faulty>(
     alloc: Global,
     seated: &mut Seated<F>,

@@ -22,13 +22,13 @@ const WRITES: u8 = 10;
 
 const SEATS: usize = 2;
 
-/// All writes of the seats.
+/// The number of all writes.
 const LIMIT: usize = 20;
 
 /// The groups of four threads.
 const GROUPS: [u64; 4] = [1, 2, 3, 4];
 
-/// What threads ask of the runtime that they share.
+/// The capabilities of the runtime that the threads share.
 trait Crew: Threads + Wait + Copy + Send + 'static {}
 
 impl<R: Threads + Wait + Copy + Send + 'static> Crew for R {}
@@ -88,7 +88,7 @@ fn join_writers<R: Threads>(
     Ok(seats)
 }
 
-// The seats, once each has made its writes in a thread of its own.
+// The seats after each has made its writes in its own thread.
 fn seats_after<R: Crew>(
     rt: &R,
     alloc: Global,
@@ -98,7 +98,7 @@ fn seats_after<R: Crew>(
     join_writers(rt, alloc, start_writers(rt, alloc, together, seats)?)
 }
 
-// The history that threads make.
+// The history that the threads make.
 fn history_of<R: Crew>(
     rt: &R,
     alloc: Global,
@@ -117,7 +117,7 @@ fn history<R: Crew>(rt: &R, alloc: Global) -> Result<Option<Vec<Recorded>>, Faul
     history_of(rt, alloc, Arc::new(alloc, Mutex::new(shared))?, seats)
 }
 
-// The history, if each seat's receipts are its calls.
+// The history, if the seats' receipts are its calls.
 fn finish<F: FileSystem + Drop>(shared: Shared<F>, seats: Vec<Seat>) -> Option<Vec<Recorded>> {
     match shared.finish(seats) {
         Ok(Finished { engine, trail }) => {
@@ -136,7 +136,7 @@ fn is_answered_write(recorded: &Recorded) -> bool {
         && matches!(&recorded.reply, Reply::Size(Ok(_)))
 }
 
-// How many calls of a seat are answered writes.
+// The number of a seat's successful writes.
 fn writes_of(trail: &[Recorded], seat: usize) -> usize {
     let mut count = 0usize;
     for recorded in trail {
@@ -163,8 +163,8 @@ fn is_history(history: Result<Option<Vec<Recorded>>, Fault>) -> bool {
     }
 }
 
-/// Two threads with a seat each make ten writes each to a group of their own: the history has twenty
-/// calls, ten of each seat, and each receipt is the call at its number.
+/// Two threads with a seat each make ten writes to a group of their own. The history has twenty
+/// calls, ten from each seat, and each receipt is the call with its number.
 #[test]
 fn two_seats_one_history(rt: HostRuntime) -> Result<(), Fail> {
     assert!(rt; is_history(history(&rt, rt.alloc())));
@@ -220,7 +220,7 @@ fn join_putters<R: Threads>(rt: &R, putters: Vec<Putter>) -> Result<(), Fault> {
     Ok(())
 }
 
-// How many keys the engine has once threads have put theirs.
+// The number of keys of the engine after the threads' puts.
 fn keys_after<R: Crew>(rt: &R, alloc: Global, together: Alone) -> Result<Option<usize>, Fault> {
     join_putters(rt, start_putters(rt, alloc, &together)?)?;
     match Arc::into_inner(together) {
@@ -241,7 +241,7 @@ fn are_forty(keys: Result<Option<usize>, Fault>) -> bool {
     }
 }
 
-/// Four threads that share an engine without a history put ten keys each: the image has forty.
+/// Four threads share an engine without a history and put ten keys each: the image has forty.
 #[test]
 fn four_threads_one_engine(rt: HostRuntime) -> Result<(), Fail> {
     assert!(rt; are_forty(keys_put(&rt, rt.alloc())));

@@ -1,4 +1,5 @@
-//! What operations come to if one call to the files fails, told from the operations done before.
+//! The possible outcomes of operations when one call on the files fails, derived from the
+//! operations that succeeded before.
 
 use raft_env::IoKind;
 use raft_records::Fault;
@@ -6,7 +7,7 @@ use raft_test_rows::{
     EMPTY, Op, Outcome, State, after, are_new, count_below, fault_of, is_done, is_refusal, value_of,
 };
 
-// A look-up, a compaction or a write that acts once shows what the operations done before it leave.
+// Whether a read, a compaction or a `write_once` returns what the state says.
 fn tells(state: State, op: &Op, outcome: &Outcome) -> bool {
     match (op, outcome) {
         (Op::Get(group, key), Outcome::Value(Ok(Some(value)))) => {
@@ -25,7 +26,8 @@ fn tells(state: State, op: &Op, outcome: &Outcome) -> bool {
     }
 }
 
-// Whether an operation may come to this in this state: by the failing call, or after it by a failed engine.
+// Whether the operation may have this outcome in this state: it fails with the failed call's
+// fault, or later because the engine has failed.
 fn is_told(state: State, op: &Op, outcome: &Outcome, kind: IoKind, refused: bool) -> bool {
     match fault_of(outcome) {
         Some(Fault::Failed) => refused,
@@ -34,8 +36,8 @@ fn is_told(state: State, op: &Op, outcome: &Outcome, kind: IoKind, refused: bool
     }
 }
 
-/// Whether each operation comes to what those done before it tell. Only one fails by the files, and those after it by a
-/// failed engine, if at all.
+/// Whether each operation has a possible outcome. At most one fails with the failed call's fault,
+/// and those after it, if at all, with `Failed`.
 pub(crate) fn are_told(ops: &[Op], outcomes: &[Outcome], kind: IoKind) -> bool {
     let mut state = EMPTY;
     let mut refused = false;
@@ -52,12 +54,12 @@ pub(crate) fn are_told(ops: &[Op], outcomes: &[Outcome], kind: IoKind) -> bool {
     true
 }
 
-// What a purge returns goes by how many files were begun.
+// The result of a purge depends on the number of files that were begun.
 fn is_as_wanted(outcome: &Outcome, wanted: &Outcome) -> bool {
     matches!(outcome, Outcome::Dropped(_) | Outcome::ToCompact(_)) || *outcome == *wanted
 }
 
-/// Whether the outcomes up to the first failed one are those that were wanted, except those of purges.
+/// Whether the outcomes before the first failure are the expected ones, except those of purges.
 pub(crate) fn begin_as_wanted(outcomes: &[Outcome], wanted: &[Outcome]) -> bool {
     for (outcome, wanted) in outcomes.iter().zip(wanted.iter()) {
         if !is_done(outcome) {

@@ -1,4 +1,4 @@
-//! An engine that does a list, what it comes to, and what is found after crashes.
+//! Runs a list of operations on an engine, keeps the outcomes, and opens what crashes leave.
 
 use crate::answers::are_told;
 use crate::lists::{List, Sort, open, plans_of, renew};
@@ -10,7 +10,7 @@ use raft_test_rows::{
 use std::alloc::Global;
 use std::mem;
 
-/// The operations of a list, and what they come to if nothing fails.
+/// The operations of a list, and their outcomes if no call fails.
 #[derive(Drop)]
 pub(crate) struct Work {
     pub(crate) sort: Sort,
@@ -18,7 +18,7 @@ pub(crate) struct Work {
     pub(crate) wanted: Vec<Outcome>,
 }
 
-/// Files with an engine or without, what its operations came to, and what a crash leaves.
+/// Files or an engine over them, the outcomes of its operations, and the files after a crash.
 #[derive(Drop)]
 pub(crate) struct Bench<F: FileSystem> {
     held: Held<F>,
@@ -26,7 +26,7 @@ pub(crate) struct Bench<F: FileSystem> {
     pub(crate) ran: Ran,
 }
 
-// Does an operation: whether there was memory for its outcome.
+// Runs an operation. Returns whether there was memory for its outcome.
 fn takes<F: FileSystem>(alloc: Global, engine: &mut Engine<F>, op: &Op, ran: &mut Ran) -> bool {
     let stood = !engine.failed();
     let outcome = step(alloc, engine, op);
@@ -44,14 +44,14 @@ fn closing<F: Faulty>(held: &mut Held<F>) -> Result<(), Fault> {
     }
 }
 
-// Closes: whether it is done.
+// Closes the engine. Returns whether that succeeded.
 fn closes<F: Faulty>(held: &mut Held<F>, ran: &mut Ran) -> bool {
     let closed = closing(held);
     let is_closed = closed.is_ok();
     ran.outcomes.push(Outcome::Done(closed)).is_ok() && is_closed
 }
 
-// Opens files that no engine has: whether an engine has them then.
+// Opens the files if no engine has them. Returns whether an engine then has them.
 fn is_open<F: Faulty>(alloc: Global, held: &mut Held<F>, sort: Sort) -> bool {
     match held {
         Held::Files(_) => {
@@ -79,13 +79,13 @@ impl<F: Faulty> Bench<F> {
         }
     }
 
-    /// Ends it by calls.
+    /// Drops it by calls.
     pub(crate) fn end(self) {
         self.held.into_files();
         self.left.into_files();
     }
 
-    // Whether the list goes on after this operation.
+    // Runs an operation. Returns whether the list continues after it.
     fn goes_on(&mut self, alloc: Global, sort: Sort, op: &Op) -> bool {
         if !is_open(alloc, &mut self.held, sort) {
             return false;
@@ -107,7 +107,8 @@ impl<F: Faulty> Bench<F> {
         }
     }
 
-    /// Does the list over new files, of which a call may fail: whether these could be made.
+    /// Runs the list over new files, in which a call may fail. Returns whether these files could
+    /// be made.
     pub(crate) fn run(&mut self, alloc: Global, work: &Work, failing: Option<Failing>) -> bool {
         self.ran = Ran::new(alloc);
         let is_made = renew(alloc, &mut self.held, work.sort);
@@ -119,7 +120,8 @@ impl<F: Faulty> Bench<F> {
         is_made && is_armed
     }
 
-    /// Whether the opening failed by the call, or each operation came to what those before it tell.
+    /// Whether the opening failed with the failed call's fault, or each operation has a possible
+    /// outcome.
     pub(crate) fn is_told(&self, work: &Work, kind: IoKind) -> bool {
         match self.held.fault() {
             Some(fault) if self.ran.outcomes.is_empty() => is_refusal(fault, kind),
@@ -127,13 +129,13 @@ impl<F: Faulty> Bench<F> {
         }
     }
 
-    /// Whether a call failed. The engine gives its files up.
+    /// Whether a call failed. The engine gives up its files first.
     pub(crate) fn has_failed(&mut self) -> bool {
         self.held.give_up();
         self.held.refusals() > 0
     }
 
-    // Whether what a crash leaves may be found.
+    // Whether the state found after a crash is allowed.
     fn finds_after(&mut self, alloc: Global, work: &Work, left: &Left) -> bool {
         let is_left = self.left.hold_left(alloc, &mut self.held, left)
             && open(alloc, &mut self.left, work.sort);
@@ -145,7 +147,7 @@ impl<F: Faulty> Bench<F> {
         }
     }
 
-    /// Whether what each of these crashes leaves may be found.
+    /// Whether the state found after each of these crashes is allowed.
     pub(crate) fn finds_allowed(&mut self, alloc: Global, work: &Work, lefts: &[Left]) -> bool {
         for left in lefts {
             if !self.finds_after(alloc, work, left) {
@@ -167,7 +169,7 @@ fn work_of(alloc: Global, list: &List) -> Option<Work> {
     }
 }
 
-/// The list's operations, and what they come to: nothing if one of them fails.
+/// The list's operations with their outcomes if no call fails.
 pub(crate) fn work_at<F: Faulty>(alloc: Global, bench: &mut Bench<F>, list: &List) -> Option<Work> {
     let mut work = work_of(alloc, list)?;
     bench.run(alloc, &work, None);

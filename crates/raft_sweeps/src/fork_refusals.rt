@@ -1,4 +1,5 @@
-//! Forks in which a call of storage fails: the next one is done, or refused if the mark is there.
+//! Forks in which one call of storage fails. A second fork succeeds, or is refused if the mark
+//! exists.
 
 use raft_env::{FileSystem, IoKind};
 use raft_fork::{CopyDetails, FORK_MARK, fork};
@@ -10,17 +11,18 @@ use raft_test_rows::{Config, Failing, Faulty};
 use std::alloc::Global;
 use std::test::Fail;
 
-/// The paths of a log's files, and their lengths.
+/// The paths and lengths of a log's files.
 const SOURCE: [(&str, usize); 3] = [
     ("a/0000000000000003.raftlog", 97),
     ("a/0000000000000004.raftlog", 300_000),
     ("a/0000000000000001.rewrite", 0),
 ];
 
-/// The settings of their log.
+/// The settings of that log.
 const SETTINGS: &str = "dir = \"a\"\nenable-log-recycle = false\n";
 
-/// A sort of calls, and how many of them a fork of these three files makes, if that follows from what a fork is.
+/// A sort of calls, and the number of them in a fork of these three files, if the definition of a
+/// fork gives it.
 struct Sort(FsCall, Option<u64>);
 
 static SORTS: [Sort; 11] = [
@@ -30,7 +32,7 @@ static SORTS: [Sort; 11] = [
     Sort(FsCall::Delete, Some(1)),
     Sort(FsCall::NewWriter, Some(3)),
     Sort(FsCall::Sync, Some(3)),
-    // 97 bytes at once, 300,000 in two parts of at most 262,144, and none of an empty file.
+    // 97 bytes at once, 300,000 bytes in two parts of at most 262,144, and none for an empty file.
     Sort(FsCall::Write, Some(3)),
     Sort(FsCall::List, None),
     Sort(FsCall::Open, None),
@@ -39,13 +41,13 @@ static SORTS: [Sort; 11] = [
     Sort(FsCall::Read, None),
 ];
 
-/// More calls of a sort than a fork makes.
+/// More calls of one sort than a fork makes.
 const MANY: u64 = 50;
 
 const KINDS: [IoKind; 3] = [IoKind::NoSpace, IoKind::NotFound, IoKind::Other];
 
-/// The call that stops a fork of three files, whether the mark is in the target then, and how many
-/// log files are.
+/// The call that stops a fork of three files, whether the target then has the mark, and its number
+/// of log files.
 struct Stop(FsCall, u64, bool, usize);
 
 static STOPS: [Stop; 14] = [
@@ -65,16 +67,16 @@ static STOPS: [Stop; 14] = [
     Stop(FsCall::Delete, 1, true, 3),
 ];
 
-/// What a fork came to.
+/// The outcome of a fork.
 #[derive(Clone, Copy, PartialEq)]
 enum Made {
     /// It copied all files.
     All,
-    /// A call of storage failed in this way.
+    /// A call of storage failed with this kind of fault.
     Failed(IoKind),
-    /// The mark was in its way.
+    /// The target already has the mark.
     Marked,
-    /// There was no memory.
+    /// Memory ran out.
     NoMemory,
     Other,
 }
@@ -100,7 +102,7 @@ fn is_stored<F: FileSystem>(alloc: Global, files: &mut F, path: &str, len: usize
     }
 }
 
-// Makes the source in new files: whether there was memory.
+// Makes the source in new files. Returns whether there was memory.
 fn renew<F: Faulty>(alloc: Global, files: &mut F) -> bool {
     *files = F::fresh(alloc);
     for (path, len) in &SOURCE {
@@ -115,8 +117,8 @@ fn begin<F: Faulty>(alloc: Global, files: &mut F, call: FsCall, nth: u64, kind: 
     renew(alloc, files) && files.fail(Failing::Nth(call, nth, kind)).is_ok()
 }
 
-// Whether a fork is done, or else failed as the call did, and a fork to another folder is done then:
-// nothing if it came to something else.
+// `true` if a fork succeeds; `false` if it fails with the call's fault and a fork to another
+// folder then succeeds; `None` for any other outcome.
 fn is_done<F: FileSystem>(
     alloc: Global,
     source: &Config,
@@ -140,7 +142,7 @@ fn is_count(count: u64, sort: &Sort) -> bool {
     }
 }
 
-// Whether as many calls of the sort as it says fail a fork in this way.
+// Whether exactly the row's number of calls of the sort make a fork fail with this kind of fault.
 fn is_as_said<F: Faulty>(
     alloc: Global,
     source: &Config,
@@ -181,7 +183,7 @@ fn have_mark(names: &[String]) -> bool {
     false
 }
 
-// Whether the target has the mark, and how many log files.
+// Whether the target has the mark, and the number of its log files.
 fn target_of<F: FileSystem>(files: &mut F) -> Option<(bool, usize)> {
     match files.list("b") {
         Ok(names) => {
@@ -192,8 +194,8 @@ fn target_of<F: FileSystem>(files: &mut F) -> Option<(bool, usize)> {
     }
 }
 
-// Whether the mark and so many log files are there after a fork that stopped, and the next fork to the same folder is
-// refused if the mark is.
+// Whether the mark and this number of log files exist after a fork was stopped, and a second fork
+// to the same folder is refused if the mark exists.
 fn is_left<F: Faulty>(alloc: Global, source: &Config, files: &mut F, stop: &Stop) -> bool {
     let is_stopped = begin(alloc, files, stop.0, stop.1, IoKind::Other)
         && fork_to(alloc, source, files, "b") == Made::Failed(IoKind::Other);
@@ -229,7 +231,7 @@ fn wrong_fork<F: Faulty>(
     }
 }
 
-// The table and the row in it of which something is wrong.
+// The table and the index of the first wrong row.
 fn wrong_row<F: Faulty>(alloc: Global, mut files: F) -> Option<(&'static str, usize)> {
     match read(alloc, SETTINGS) {
         Ok(source) => wrong_fork(alloc, &source, &mut files),
@@ -250,8 +252,8 @@ fn is_made_again<F: Faulty>(alloc: Global, source: &Config, files: &mut F) -> bo
     made == Made::All || (made == Made::NoMemory && fork_to(alloc, source, files, "c") == Made::All)
 }
 
-// Whether a fork is done; with the Nth request for memory refused (`rt try --test --fail-alloc N`)
-// it says so, and one to another folder is done.
+// Whether a fork succeeds. If the Nth request for memory is refused (`rt try --test --fail-alloc
+// N`), the fork reports that, and a fork to another folder succeeds.
 fn is_made<F: Faulty>(alloc: Global, mut files: F) -> Result<bool, Fault> {
     let source = read(alloc, SETTINGS)?;
     if renew(alloc, &mut files) {

@@ -1,4 +1,4 @@
-//! What a listener hears of the calls of an engine, and the files that it keeps from purges.
+//! What a listener hears of an engine's calls, and the files that it keeps from purges.
 
 use raft_base::{FileBlockHandle, FileId, FileSeq, LogQueue};
 use raft_env::{FileSystem, IoKind};
@@ -11,13 +11,13 @@ use std::sync::Arc;
 use std::sync::atomic::{AtomicU64, Ordering};
 use std::test::Fail;
 
-/// How a number grows by a call, and a file that a listener keeps.
+/// How a listener counts calls in one number, and a file that it keeps.
 #[derive(Clone, Copy)]
 enum Ear {
-    /// A digit more for each call: 1 for a new log file, 2 for an append, 3 for an application, 4 for
-    /// dropped files.
+    /// Appends a digit for each call: 1 for a new log file, 2 for an append, 3 for an application,
+    /// 4 for dropped files.
     Digits,
-    /// 1,000 more for an append, and 1 for an application.
+    /// Adds 1,000 for an append, and 1 for an application.
     Counts(Option<FileSeq>),
 }
 
@@ -71,32 +71,33 @@ impl EventListener for Noting {
 
 #[derive(Clone, Copy)]
 enum Step {
-    /// A write of one key, or of none, with a sync.
+    /// A synced write of one key; `Nothing` is one without items.
     Put,
     Nothing,
     /// A write of one key with number 1 of its group.
     Once,
-    /// A group of two writes of one key.
+    /// A write group of two batches of one key each.
     Group,
-    /// An entry, and the compaction of its group.
+    /// An entry; `Compact` is the compaction of its group.
     Entry,
     Compact,
-    /// A purge of all files in which nothing is.
+    /// A purge of all files to which nothing refers.
     Purge,
-    /// A rewriting of the Append queue, and of the Rewrite queue.
+    /// A rewriting of the Append queue; `Renew` is one of the Rewrite queue.
     Rewrite,
     Renew,
-    /// A write that removes the group of a put.
+    /// A write that removes the group of the put.
     Clean,
-    /// Writes of 50 entries of each of three groups, and of one of each of 47 others; the former are 10 bytes long, the
-    /// latter 1 KB.
+    /// Writes 50 entries of 10 bytes in each of three groups, and one entry of 1 KB in each of 47
+    /// other groups.
     WriteMany,
     /// A purge by watermarks.
     Expire,
 }
 
-/// The target size of files, which writes of a file find no space, counted from 1, what is done, how it is heard, what is
-/// heard of it, and, if that is asked, with which file the Append queue begins then.
+/// The target size of files, the numbers (from 1) of file writes that find no space, the steps,
+/// how the listener counts, the expected number, and the Append queue's first file afterwards, if
+/// that is checked.
 struct Heard(
     u64,
     &'static [u64],
@@ -106,8 +107,8 @@ struct Heard(
     Option<FileSeq>,
 );
 
-/// The first purge writes what few entries others have again, the tenth those of the three groups, for which each purge
-/// asks: 197 records and two.
+/// The first purge rewrites groups with few entries, the tenth the three groups that each purge
+/// returns: 197 records and two.
 const TEN_PURGES: &[Step] = &[
     Step::WriteMany,
     Step::Expire,
@@ -129,7 +130,7 @@ const KEEPS_1: Ear = Ear::Counts(Some(1));
 const KEEPS_20: Ear = Ear::Counts(Some(20));
 
 static CALLS: [Heard; 18] = [
-    // An opening: the first file of each queue.
+    // An opening makes the first file of each queue.
     Heard(1024, &[], &[], Ear::Digits, 11, None),
     Heard(
         1024,
@@ -140,7 +141,7 @@ static CALLS: [Heard; 18] = [
         None,
     ),
     Heard(1024, &[], &[Step::Nothing], Ear::Digits, 11, None),
-    // The second time its number is old, and nothing is written.
+    // The second time the group's number is old, and nothing is written.
     Heard(
         1024,
         &[],
@@ -159,7 +160,7 @@ static CALLS: [Heard; 18] = [
         112_323,
         None,
     ),
-    // Each queue goes on, and both lose a file, or the Rewrite queue alone.
+    // Both queues begin a new file and lose one, or only the Rewrite queue does.
     Heard(1024, &[], &[Step::Purge], Ear::Digits, 111_144, None),
     Heard(
         1024,
@@ -169,8 +170,8 @@ static CALLS: [Heard; 18] = [
         1_123_114,
         None,
     ),
-    // What is in a file is written again, or all of the Rewrite queue: its record, as a put's, is
-    // heard before a new file of the Append queue, and that before the file that left.
+    // A file's data is rewritten, or all of the Rewrite queue. The listener hears of the record,
+    // then of a new Append file, and then of the dropped file.
     Heard(
         1024,
         &[],
@@ -187,7 +188,7 @@ static CALLS: [Heard; 18] = [
         112_323_141_234,
         None,
     ),
-    // A clean is owed once the Rewrite queue may have a batch: its mark is a record.
+    // A clean mark is owed once the Rewrite queue may have a batch. The mark is a record.
     Heard(
         1024,
         &[],
@@ -196,7 +197,7 @@ static CALLS: [Heard; 18] = [
         1_123_231_423_123_144,
         None,
     ),
-    // Each file is full with its header.
+    // Each file is full once it has its header.
     Heard(
         1,
         &[],
@@ -205,8 +206,8 @@ static CALLS: [Heard; 18] = [
         11_123_123_123,
         None,
     ),
-    // Two headers are written before. The first attempt finds no space, and then, with the header of
-    // the next file between them, both.
+    // Two headers were written before. The first attempt to write finds no space, and the second,
+    // after the next file's header, too.
     Heard(1024, &[3], &[Step::Put], Ear::Digits, 11_123, None),
     Heard(
         1024,
@@ -247,7 +248,7 @@ fn add_entry(
     batch.add_raw_entries(group, vec![in alloc; entry]?, bytes)
 }
 
-// What a step writes, if it is no group.
+// The batch of a step; a write group has another function.
 fn fill(alloc: Global, batch: &mut LogBatch, step: Step) -> Result<(), Fault> {
     match step {
         Step::Put | Step::Once => put(alloc, batch, 7),
@@ -343,7 +344,7 @@ fn asks_for_three<F: FileSystem, L: FileKeeper>(engine: &mut Engine<F>, listener
     }
 }
 
-// Of each call what is heard counts, and of the purges by watermarks which groups they ask for.
+// Runs a step. A purge by watermarks also has to return the three groups.
 fn call<F: FileSystem, L: FileKeeper>(
     alloc: Global,
     engine: &mut Engine<F>,
@@ -370,7 +371,8 @@ fn call<F: FileSystem, L: FileKeeper>(
     }
 }
 
-// Whether each call is done, or the row has writes that find no space; and the Append queue begins with its file then.
+// Whether each call succeeds, or the row has writes without space, and the Append queue then
+// begins with its file.
 fn are_called<F: FileSystem, L: FileKeeper>(
     alloc: Global,
     engine: &mut Engine<F>,

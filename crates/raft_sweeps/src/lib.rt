@@ -1,4 +1,5 @@
-//! Tests that cross crates: trials, refusals of lists of operations, logs that use files again, forks and listeners.
+//! Tests that cross crates: trials, failing calls in lists of operations, logs that reuse files,
+//! forks and listeners.
 #![tactic(auto)]
 
 #[cfg(test)]

@@ -4,9 +4,10 @@ use raft_records::ReadableSize;
 use raft_test_rows::{Change, Config, Faulty, Held, Plan, Sequence, plans_in, settings};
 use std::alloc::{AllocError, Global};
 
-/// Two sittings with a close at each sync. Of each value of 250 bytes a log file is full. Files 1 to 3 are dropped, of which
-/// two have room beside a reserved one, and become files 6 and 7; then files 4 and 5 are, which a close gives reserved
-/// names. In the second sitting next files are made of these.
+/// Two sittings; each sync is a close. A log file is full with each value of 250 bytes. Files 1 to
+/// 3 are dropped; two are kept beside a reserved file and become files 6 and 7. Then files 4 and 5
+/// are dropped, and a close gives them reserved names. The second sitting makes its next files
+/// from these.
 static SITTINGS: [Plan; 19] = [
     Plan::Write(
         &[Change::Put(1, b"a", &[1; 250]), Change::Put(2, b"c", &[1])],
@@ -41,25 +42,27 @@ static SITTINGS: [Plan; 19] = [
     Plan::Sync,
 ];
 
-/// How a list is done.
+/// How a list is run.
 #[derive(Clone, Copy)]
 pub(crate) enum Sort {
-    /// With the settings of the tests.
+    /// With the tests' settings.
     Plain,
-    /// Dropped files are used again. A close takes the place of each sync, and an opening comes after it.
+    /// Dropped files are reused. Each sync is a close, with an opening after it.
     Recycling,
-    /// .. in two folders, of which the second alone has room. There are metadata of files that the second sitting finds gone.
+    /// The same in two folders, of which only the second has room. The second sitting finds
+    /// metadata of missing files.
     InTwoFolders,
 }
 
-/// Which operations a list has.
+/// The operations of a list.
 #[derive(Clone, Copy)]
 pub(crate) enum Script {
     Of(Sequence),
     Sittings,
 }
 
-/// The operations: tables are named by functions of their own, since a proof has all of a table at each step.
+/// The operations. Each table is named by its own function, since a proof has the whole table at
+/// each step.
 pub(crate) fn plans_of(script: Script) -> &'static [Plan] {
     match script {
         Script::Of(sequence) => plans_in(sequence),
@@ -67,14 +70,15 @@ pub(crate) fn plans_of(script: Script) -> &'static [Plan] {
     }
 }
 
-/// Operations, and how they are done.
+/// Operations, and how they are run.
 pub(crate) struct List {
     pub(crate) name: &'static str,
     pub(crate) script: Script,
     pub(crate) sort: Sort,
-    /// So many calls at least change files if a crash leaves up to `kept` of the touched bytes of each file. Where dropped
-    /// files are used again these are files of both queues and four reserved ones, with a write each, and of the seven
-    /// long values each has a write, and a next file a cut, a rename, a header and a sync.
+    /// The least number of calls that change files, if a crash leaves up to `kept` of the bytes
+    /// written since a sync. With reused files these are: both queues' first files and four
+    /// reserved ones with a write each, a write for each of seven long values, and a cut, a
+    /// rename, a header and a sync for each next file.
     pub(crate) changes: u64,
     pub(crate) kept: usize,
 }
@@ -122,7 +126,8 @@ pub(crate) fn all_lists() -> &'static [List] {
     LISTS.as_slice()
 }
 
-// A log file is full at 256 bytes, and three of them are purged; reserved files are made ahead.
+// Settings: a log file is full at 256 bytes, the Append queue is purged above three files, and
+// reserved files are made at an opening.
 fn recycling(alloc: Global) -> Result<Config, AllocError> {
     let mut config = settings(alloc)?;
     config.target_file_size = ReadableSize(256);
@@ -146,7 +151,7 @@ fn settings_of(alloc: Global, sort: Sort) -> Result<Config, AllocError> {
     }
 }
 
-/// Opens the files with the list's settings: whether there was memory for these.
+/// Opens the files with the list's settings. Returns whether there was memory for the settings.
 pub(crate) fn open<F: Faulty>(alloc: Global, held: &mut Held<F>, sort: Sort) -> bool {
     match settings_of(alloc, sort) {
         Ok(config) => {
@@ -163,7 +168,7 @@ fn are_two_folders<F: Faulty>(files: &mut F) -> bool {
         && files.note("spill/0000000000000004.raftlog").is_ok()
 }
 
-/// New files, which have no log files yet: whether there was memory.
+/// Makes new files without log files. Returns whether there was memory.
 pub(crate) fn renew<F: Faulty>(alloc: Global, held: &mut Held<F>, sort: Sort) -> bool {
     held.renew(alloc);
     match sort {

@@ -1,4 +1,4 @@
-//! Lists of which one call to the files fails, and then the files are left in three ways.
+//! Lists in which one call on the files fails, and crashes that leave the files in three ways.
 
 use crate::answers::begin_as_wanted;
 use crate::bench::{Bench, Work, work_at};
@@ -9,18 +9,18 @@ use raft_test_rows::{CALLS, Failing, Faulty, Left, Outcome, first_refused};
 use std::alloc::Global;
 use std::test::Fail;
 
-/// A sort of calls, which of them fails, and how.
+/// A sort of calls, which of them fails, and the kind of fault.
 type Refusal = (FsCall, u64, IoKind);
 
 const MAX_CALLS: u64 = 400;
 
 const KINDS: [IoKind; 3] = [IoKind::NoSpace, IoKind::NotFound, IoKind::Other];
 
-/// What a crash may leave of each log file.
+/// What a crash leaves of each log file.
 static LEFTS: [Left; 3] = [Left::All, Left::Synced, Left::Torn(7, 255)];
 
-// Whether no operation fails by the failing call: room that can't be made ahead is done without, and a record that
-// finds no space goes to the next file, but a header that finds none fails.
+// Whether the failed call makes no operation fail: room ahead is optional, and a record that finds
+// no space goes to the next file. If that file's header finds none, the operation fails.
 fn is_done_without(call: FsCall, kind: IoKind, refused: bool) -> bool {
     match (call, kind) {
         (FsCall::Allocate, _) => true,
@@ -29,7 +29,7 @@ fn is_done_without(call: FsCall, kind: IoKind, refused: bool) -> bool {
     }
 }
 
-// .. if dropped files are used again.
+// The same for lists with reused files.
 fn is_never_missed(call: FsCall) -> bool {
     matches!(
         call,
@@ -37,7 +37,7 @@ fn is_never_missed(call: FsCall) -> bool {
     )
 }
 
-// Whether an operation fails, or the opening, if a call did that they don't do without.
+// Whether an operation or the opening fails exactly if a call failed that it needs.
 fn is_right(work: &Work, outcomes: &[Outcome], refusal: Refusal, is_met: bool) -> bool {
     let (call, _, kind) = refusal;
     let are_all = outcomes.len() == work.wanted.len();
@@ -48,7 +48,7 @@ fn is_right(work: &Work, outcomes: &[Outcome], refusal: Refusal, is_met: bool) -
     }
 }
 
-// With the call failing: whether it came, or nothing if something is wrong.
+// Lets the call fail. Returns whether it was made; `None` if an outcome is wrong.
 fn refuse_one<F: Faulty>(
     alloc: Global,
     bench: &mut Bench<F>,
@@ -69,7 +69,7 @@ fn refuse_one<F: Faulty>(
     }
 }
 
-// In two folders there are calls of each sort.
+// In two folders a list has calls of each sort.
 fn is_last(work: &Work, nth: u64) -> bool {
     match work.sort {
         Sort::InTwoFolders => nth > 1,
@@ -77,7 +77,7 @@ fn is_last(work: &Work, nth: u64) -> bool {
     }
 }
 
-// The first call of a sort of which something is wrong, up to one that doesn't come.
+// The number of the first call of the sort with a wrong outcome, before one that isn't made.
 fn wrong_call<F: Faulty>(
     alloc: Global,
     bench: &mut Bench<F>,
@@ -106,7 +106,7 @@ fn wrong_in<F: Faulty>(alloc: Global, bench: &mut Bench<F>, work: &Work) -> Opti
     None
 }
 
-// The first call of a list of which something is wrong; of one that can't be done at all the first of all.
+// The first call of a list with a wrong outcome; if the list fails without a failing call, call 0.
 fn wrong_of<F: Faulty>(alloc: Global, bench: &mut Bench<F>, list: &List) -> Option<Refusal> {
     let nothing = Some((FsCall::Create, 0, IoKind::Other));
     match work_at(alloc, bench, list) {

@@ -1,4 +1,5 @@
-//! Lists whose dropped files are used again, stopped at each call that changes files, and then crashed in many ways.
+//! Lists that reuse dropped files, stopped at each call that changes files, and then crashed in
+//! many ways.
 
 use crate::bench::{Bench, Work, work_at};
 use crate::lists::{List, all_lists};
@@ -9,7 +10,8 @@ use std::test::Fail;
 
 const MAX_CALLS: u64 = 400;
 
-// All that was not synced, nothing of it, and of the touched bytes the first ones, with the others as zeros or as ones.
+// A crash leaves all unsynced bytes, none, or only the first of the bytes written since a sync,
+// with zeros or ones in place of the others.
 fn ways_of(alloc: Global, kept: usize) -> Result<Vec<Left>, AllocError> {
     let mut ways = vec![in alloc; Left::All, Left::Synced]?;
     for kept in 0..kept {
@@ -19,8 +21,8 @@ fn ways_of(alloc: Global, kept: usize) -> Result<Vec<Left>, AllocError> {
     Ok(ways)
 }
 
-// With the changes from the nth on failing: whether there were so many, or nothing if a crash leaves what may not be
-// found.
+// Lets each change from the nth on fail. Returns whether there were so many; `None` if a state
+// after a crash isn't allowed.
 fn stop_at<F: Faulty>(
     alloc: Global,
     bench: &mut Bench<F>,
@@ -39,7 +41,7 @@ fn stop_at<F: Faulty>(
     }
 }
 
-// The first stop that doesn't come, if nothing is wrong up to there.
+// The first number without a change to stop, if all outcomes before it are right.
 fn first_missing<F: Faulty>(
     alloc: Global,
     bench: &mut Bench<F>,
@@ -54,7 +56,7 @@ fn first_missing<F: Faulty>(
     None
 }
 
-// Whether enough stops come, and nothing is wrong after one.
+// Whether there are enough changes to stop at, and each outcome is right.
 fn stops<F: Faulty>(alloc: Global, bench: &mut Bench<F>, list: &List, ways: &[Left]) -> bool {
     match work_at(alloc, bench, list) {
         Some(work) => match first_missing(alloc, bench, &work, ways) {

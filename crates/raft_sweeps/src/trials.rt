@@ -13,7 +13,7 @@ const FIRST: State = State { a: 1, ..EMPTY };
 
 const BOTH: State = State { b: 2, ..FIRST };
 
-/// A put with a sync, one without, and look-ups of both.
+/// A put with a sync, one without, and reads of both.
 static PLANS: [Plan; 4] = [
     Plan::Write(&[Change::Put(1, b"a", &[1])], true),
     Plan::Write(&[Change::Put(1, b"b", &[2])], false),
@@ -21,7 +21,7 @@ static PLANS: [Plan; 4] = [
     Plan::Get(1, b"b"),
 ];
 
-/// What the operations are answered where nothing fails.
+/// The results of these operations if nothing fails.
 static ANSWERS: [Answer; 4] = [
     Answer::Size(28),
     Answer::Size(28),
@@ -29,7 +29,7 @@ static ANSWERS: [Answer; 4] = [
     Answer::Value(Some(&[2])),
 ];
 
-/// Entries, of which some don't follow those before them, and reads of them.
+/// Entries, some of which don't continue the earlier ones, and reads of them.
 static ENTRIES: [Plan; 9] = [
     Plan::Write(&[Change::Entries(3, 1, 3, b"w")], false),
     Plan::Write(
@@ -45,7 +45,8 @@ static ENTRIES: [Plan; 9] = [
     Plan::Groups,
 ];
 
-/// A record of three entries of three bytes is 16 + 9 + 4 + 8 + 4 bytes long, one of one entry 16 + 3 + 4 + 6 + 4.
+/// A record of three entries of three bytes has 16 + 9 + 4 + 8 + 4 bytes, one of one entry 16 + 3
+/// + 4 + 6 + 4.
 static ENTRY_ANSWERS: [Answer; 9] = [
     Answer::Size(41),
     Answer::Fails(5),
@@ -58,7 +59,8 @@ static ENTRY_ANSWERS: [Answer; 9] = [
     Answer::Groups(&[3]),
 ];
 
-/// Entries, then a group whose second batch doesn't follow them and whose third asks for a sync.
+/// Entries, then a write group whose second batch doesn't continue them, and whose third asks for
+/// a sync.
 static GROUP: [Plan; 2] = [
     Plan::Write(&[Change::Entries(3, 1, 3, b"w")], false),
     Plan::WriteGroup(&[
@@ -70,7 +72,7 @@ static GROUP: [Plan; 2] = [
 
 static GROUP_ANSWERS: [Answer; 2] = [Answer::Size(41), Answer::Sizes(&[Ok(28), Err(5), Ok(28)])];
 
-/// What is found of the group, of the entries, and of the synced ones.
+/// The state with the write group's entries.
 const GROUPED: State = State {
     words: [0, b'w', b'w', b'w', 0, 0, 0, 0],
     ..BOTH
@@ -86,7 +88,7 @@ const SYNCED: State = State {
     ..EMPTY
 };
 
-/// Which operations.
+/// The operations of a trial.
 #[derive(Clone, Copy)]
 enum Script {
     Keys,
@@ -94,14 +96,14 @@ enum Script {
     Group,
 }
 
-/// What operations return: nothing if the opening is stopped.
+/// The expected results of the operations; none if the opening is stopped.
 #[derive(Clone, Copy)]
 enum Returned {
     All(Script),
     Nothing,
 }
 
-// Tables are named by functions of their own, since a proof has all of a table at each step.
+// Each table is named by its own function, since a proof has the whole table at each step.
 fn plans_of(script: Script) -> &'static [Plan] {
     match script {
         Script::Keys => PLANS.as_slice(),
@@ -118,11 +120,12 @@ fn answers_of(script: Script) -> &'static [Answer] {
     }
 }
 
-/// A second crash: a stop of the opening after the first one, and what it is to leave.
+/// A second crash: the call at which the opening after the first crash is stopped, and what the
+/// second crash leaves.
 struct Again(Option<u64>, Left);
 
-/// Operations, a stop, what a crash is to leave, perhaps a second crash, what the operations return, and what is found or
-/// the code of the fault.
+/// Operations, a stop, what a crash leaves, perhaps a second crash, the operations' results, and
+/// the recovered state or the fault's code.
 struct Case(
     Script,
     Option<u64>,
@@ -173,7 +176,7 @@ static CASES: [Case; 14] = [
         Returned::All(Script::Group),
         Ok(GROUPED),
     ),
-    // The first call that changes files is one of the opening.
+    // The first call that changes files is the opening's.
     Case(
         Script::Keys,
         Some(1),
@@ -182,7 +185,7 @@ static CASES: [Case; 14] = [
         Returned::Nothing,
         Ok(EMPTY),
     ),
-    // Storage may not leave these bytes.
+    // The contract of storage doesn't allow these bytes.
     Case(
         Script::Keys,
         None,
@@ -267,7 +270,7 @@ fn is_found(opened: &Result<Image, Fault>, wanted: State) -> bool {
     }
 }
 
-// Whether the opening after the first crash is done, if no call stops it, and finds the same.
+// Whether the opening after the second crash finds the same state, or was stopped.
 fn is_second(shown: &Trial, again: &Option<Again>, wanted: State) -> bool {
     match (&shown.second, again) {
         (Some(second), Some(again)) => match again.0 {

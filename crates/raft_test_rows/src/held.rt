@@ -1,22 +1,23 @@
-//! Files in memory, or an engine over them.
+//! A log in a test: files in memory, or an engine over them.
 
 use crate::plans::{Left, choices_of};
 use crate::states::{MAX_FILES, State, settings_in, state_of};
 use raft_env::{FileSystem, IoKind};
-use raft_log_engine::{Config, Engine, RecoveryMode, Refused};
 use raft_memory::{FsCall, MemoryFileSystem};
 use raft_records::Fault;
+use raft_script::{Config, Engine, RecoveryMode, Refused};
 use std::alloc::Global;
 use std::mem;
 
-/// Which call fails: the nth of a sort, in this way, or the nth that changes files and each after it.
+/// A call that will fail: the nth of a sort with a kind of fault, or the nth that changes files
+/// and each after it.
 #[derive(Clone, Copy)]
 pub enum Failing {
     Nth(FsCall, u64, IoKind),
     From(u64),
 }
 
-/// Files that fail and crash as they are told.
+/// Files whose calls fail, and that crash, on request.
 pub trait Faulty: FileSystem + Drop {
     fn fresh(alloc: Global) -> Self;
 
@@ -26,16 +27,16 @@ pub trait Faulty: FileSystem + Drop {
 
     fn crash_to(&mut self, alloc: Global, left: &Left) -> Result<(), Fault>;
 
-    /// Gives a folder so many bytes of free space.
+    /// Sets a folder's free space in bytes.
     fn free_to(&mut self, folder: &str, bytes: u64) -> Result<(), Fault>;
 
     /// Gives metadata to a path.
     fn note(&mut self, path: &str) -> Result<(), Fault>;
 
-    /// The files as a crash leaves them.
+    /// The files after a crash.
     fn left(&self, alloc: Global, left: &Left) -> Result<Self, Fault>;
 
-    /// .. with all their bytes.
+    /// The files with all of their bytes.
     fn copied(&self, alloc: Global) -> Result<Self, Fault>;
 }
 
@@ -86,12 +87,12 @@ impl Faulty for MemoryFileSystem {
     }
 }
 
-/// Where the files are.
+/// The files, an engine over them, or neither.
 #[derive(Drop)]
 pub enum Held<F: FileSystem> {
     Files(F),
     Engine(Engine<F>),
-    /// What the last opening or closing gave back.
+    /// The files and the fault of the last opening or closing, which failed.
     Refused(Refused<F>),
     Nothing,
 }
@@ -111,7 +112,7 @@ fn is_state(found: Option<State>, wanted: State) -> bool {
 }
 
 impl<F: Faulty> Held<F> {
-    /// The files, which an engine gives up.
+    /// Returns the files. An engine gives them up.
     pub fn into_files(self) -> Option<F> {
         match self {
             Held::Files(files) => Some(files),
@@ -121,17 +122,19 @@ impl<F: Faulty> Held<F> {
         }
     }
 
-    /// Takes the files, which an engine gives up.
+    /// Takes the files out. An engine gives them up.
     pub fn take(&mut self) -> Option<F> {
         mem::replace(self, Held::Nothing).into_files()
     }
 
-    /// Holds this in place of what was held, which ends by a call: the proof of a drop is long.
+    /// Replaces what is held. The old value is dropped by a call, since the proof of a drop is
+    /// long.
     pub fn hold(&mut self, held: Held<F>) {
         mem::replace(self, held).into_files();
     }
 
-    /// Holds what a crash leaves of another's files: whether it has any, and there is memory.
+    /// Holds the files that a crash leaves of another log. Returns whether that log has files and
+    /// memory sufficed.
     pub fn hold_left(&mut self, alloc: Global, of: &mut Held<F>, left: &Left) -> bool {
         match of.files() {
             Some(files) => self.hold_made(files.left(alloc, left)),
@@ -149,7 +152,7 @@ impl<F: Faulty> Held<F> {
         }
     }
 
-    /// Begins anew.
+    /// Holds new files.
     pub fn renew(&mut self, alloc: Global) {
         self.hold(Held::Files(F::fresh(alloc)));
     }
@@ -169,7 +172,7 @@ impl<F: Faulty> Held<F> {
         }
     }
 
-    /// Opens the files, which an engine gives up first.
+    /// Opens the files. An engine gives them up first.
     pub fn open_with(&mut self, alloc: Global, config: Config) {
         if let Some(files) = self.take() {
             match Engine::open_in_order(alloc, config, files) {
@@ -179,7 +182,8 @@ impl<F: Faulty> Held<F> {
         }
     }
 
-    /// .. with the settings of the tests, in this mode: whether there was memory for them.
+    /// Opens the files with the tests' settings in this mode. Returns whether there was memory for
+    /// the settings.
     pub fn open(&mut self, alloc: Global, mode: RecoveryMode) -> bool {
         match settings_in(alloc, mode) {
             Ok(config) => {
@@ -222,7 +226,7 @@ impl<F: Faulty> Held<F> {
         }
     }
 
-    /// How many calls failed of the files, unless an engine has them.
+    /// The number of failed calls on the files; 0 if an engine has them.
     pub fn refusals(&mut self) -> u64 {
         match self.files() {
             Some(files) => files.refusals(),
@@ -230,7 +234,7 @@ impl<F: Faulty> Held<F> {
         }
     }
 
-    /// What the engine's image shows.
+    /// The state of the engine's image.
     pub fn state(&mut self) -> Option<State> {
         match self {
             Held::Engine(engine) => image_state(engine),
@@ -246,7 +250,7 @@ impl<F: Faulty> Held<F> {
         }
     }
 
-    /// Whether an opening came to this state, or failed with this code.
+    /// Whether the last opening gave this state, or failed with this code.
     pub fn has_come_to(&mut self, wanted: &Result<State, u8>) -> bool {
         match self {
             Held::Engine(engine) => match wanted {

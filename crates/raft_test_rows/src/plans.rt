@@ -1,4 +1,4 @@
-//! Operations, crashes and answers as rows of a table.
+//! Operations, crashes and results as rows of a table.
 
 use raft_memory::Choice;
 use raft_records::Fault;
@@ -8,18 +8,18 @@ use std::alloc::{AllocError, Global};
 pub enum Change {
     Put(u64, &'static [u8], &'static [u8]),
     Delete(u64, &'static [u8]),
-    /// Entries of a group with the indexes from the first to the last and this word.
+    /// Entries of a group with the indexes from the first to the last, each with this word.
     Entries(u64, u64, u64, &'static [u8]),
-    /// .. and a word of so many times this byte.
+    /// The same with a word of one byte, repeated so many times.
     LongEntries(u64, u64, u64, u8, usize),
     Clean(u64),
     Compact(u64, u64),
 }
 
 pub enum Plan {
-    /// The changes as one batch, synced where that is asked.
+    /// Writes the changes as one batch; the flag requests a sync.
     Write(&'static [Change], bool),
-    /// Batches that are written at once, and which of them ask for a sync.
+    /// Writes batches together; each flag requests a sync.
     WriteGroup(&'static [(&'static [Change], bool)]),
     Sync,
     Get(u64, &'static [u8]),
@@ -34,7 +34,7 @@ pub enum Plan {
     Purge,
 }
 
-/// What a crash is to leave of a log file.
+/// What a crash leaves of a log file.
 #[derive(Drop)]
 pub enum Left {
     All,
@@ -45,7 +45,7 @@ pub enum Left {
 
 pub enum Answer {
     Size(usize),
-    /// Of each batch of a group the length of its record, or the code with which it fails.
+    /// For each batch of a write group the length of its record, or the code with which it fails.
     Sizes(&'static [Result<usize, u8>]),
     Value(Option<&'static [u8]>),
     Count(u64),
@@ -53,7 +53,7 @@ pub enum Answer {
     Entry(u64, &'static [u8]),
     Index(Option<u64>),
     Groups(&'static [u64]),
-    /// It fails with this code.
+    /// The operation fails with this code.
     Fails(u8),
 }
 
@@ -129,7 +129,7 @@ pub fn choice_of(alloc: Global, left: &Left) -> Result<Choice, AllocError> {
     }
 }
 
-/// The same for each of so many files.
+/// The choice for a crash, once for each of so many files.
 pub fn choices_of(alloc: Global, left: &Left, files: usize) -> Result<Vec<Choice>, AllocError> {
     let mut choices = Vec::new(alloc);
     for _ in 0..files {
@@ -138,7 +138,7 @@ pub fn choices_of(alloc: Global, left: &Left, files: usize) -> Result<Vec<Choice
     Ok(choices)
 }
 
-/// The fault that an operation failed with.
+/// The fault with which an operation failed.
 pub fn fault_of(outcome: &Outcome) -> Option<&Fault> {
     match outcome {
         Outcome::Size(answer) => answer.as_ref().err(),

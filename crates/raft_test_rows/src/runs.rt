@@ -1,15 +1,14 @@
-//! Operations at an engine, and what they come to.
+//! Runs operations on an engine and keeps their outcomes.
 
 use crate::held::{Faulty, Held};
 use crate::states::first_refused;
 use raft_env::{FileSystem, IoKind};
-use raft_log_engine::Engine;
 use raft_memory::FsCall;
 use raft_records::Fault;
-use raft_script::{Op, Outcome, run};
+use raft_script::{Engine, Op, Outcome, run};
 use std::alloc::Global;
 
-/// Each sort of calls that may be refused.
+/// Each sort of calls that may fail.
 pub const CALLS: [FsCall; 16] = [
     FsCall::Create,
     FsCall::Open,
@@ -29,7 +28,7 @@ pub const CALLS: [FsCall; 16] = [
     FsCall::Read,
 ];
 
-/// What operations came to.
+/// The outcomes of operations.
 #[derive(Drop)]
 pub struct Ran {
     /// Empty if the opening failed.
@@ -72,7 +71,8 @@ fn run_noted<F: FileSystem>(
     }
 }
 
-/// Does the operations at the engine, if there is one: whether there was memory for what they come to.
+/// Runs the operations on the engine, if there is one. Returns whether there was memory for the
+/// outcomes.
 pub fn run_held<F: Faulty>(alloc: Global, held: &mut Held<F>, ops: &[Op], ran: &mut Ran) -> bool {
     match held {
         Held::Engine(engine) => {
@@ -87,8 +87,8 @@ pub fn run_held<F: Faulty>(alloc: Global, held: &mut Held<F>, ops: &[Op], ran: &
     }
 }
 
-/// Whether it is the refused call's. A write that twice finds no space, and a purge, are to be tried
-/// again.
+/// Whether the fault comes from the failed call. A write that finds no space twice, and a purge,
+/// return `TryAgain`.
 pub fn is_refusal(fault: &Fault, kind: IoKind) -> bool {
     match fault {
         Fault::Io(by, _) => *by == kind,

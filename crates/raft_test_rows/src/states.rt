@@ -1,14 +1,13 @@
-//! Operations on four keys and eight entries, and what these hold: told from the operations alone, and read from an
-//! image.
+//! Operations on four keys and eight entries, and the state of these: derived from the operations
+//! only, or read from an image.
 
 use crate::plans::{Change, Plan};
-use raft_log_engine::{Config, Image, RecoveryMode};
 use raft_records::{Fresh, ReadableSize};
-use raft_script::{Act, Op, Outcome};
+use raft_script::{Act, Config, Image, Op, Outcome, RecoveryMode};
 use std::alloc::{AllocError, Global};
 
-/// The first byte of the value at each key and of the word of each entry, 0 where there is none: `a` and `b` are keys
-/// of group 1, `c` and `d` of group 2; the entries are those of group 3, by their indexes.
+/// The first byte of each key's value and of each entry's word, 0 for none. `a` and `b` are keys
+/// of group 1, `c` and `d` of group 2. The entries are those of group 3, by their indexes.
 #[derive(Clone, Copy, PartialEq, Eq)]
 pub struct State {
     pub a: u8,
@@ -16,9 +15,10 @@ pub struct State {
     pub c: u8,
     pub d: u8,
     pub words: [u8; 8],
-    /// The number that each of the groups 0 to 3 keeps for writes that act once; no image shows it.
+    /// The number that each of the groups 0 to 3 keeps for writes that act once. No image shows
+    /// it.
     pub numbers: [u64; 4],
-    /// Something else is there.
+    /// Something else exists.
     pub other: bool,
 }
 
@@ -52,7 +52,7 @@ fn first_byte(value: &[u8]) -> u8 {
     }
 }
 
-// The first byte of an entry's word, which stands after the colon.
+// The first byte of an entry's word, which is after the colon.
 fn word_byte(text: &[u8]) -> u8 {
     let mut is_word = false;
     for byte in text {
@@ -64,7 +64,7 @@ fn word_byte(text: &[u8]) -> u8 {
     0
 }
 
-/// The value's byte at a key.
+/// The first byte of the value at a key.
 pub fn value_of(state: State, group: u64, key: &[u8]) -> u8 {
     match (group, key) {
         (1, b"a") => state.a,
@@ -84,7 +84,7 @@ fn with_word(state: State, group: u64, index: u64, word: u8) -> State {
     state
 }
 
-// The words at the indexes from `first` up to the one before `end` go.
+// Removes the words at the indexes from `first` to the one before `end`.
 fn without_words(words: [u8; 8], first: u64, end: u64) -> [u8; 8] {
     let mut words = words;
     for (index, word) in words.iter_mut().enumerate() {
@@ -95,7 +95,7 @@ fn without_words(words: [u8; 8], first: u64, end: u64) -> [u8; 8] {
     words
 }
 
-// Entries stand before those with greater indexes alone, which go.
+// Adds entries. They replace all entries from the first of their indexes on.
 fn with_entries(state: State, group: u64, entries: &[(u64, Vec<u8>)]) -> State {
     let mut state = state;
     if let Some(first) = entries.first() {
@@ -118,7 +118,7 @@ fn compacted(state: State, group: u64, index: u64) -> State {
     }
 }
 
-// The groups keep these numbers.
+// Sets the numbers of these groups.
 fn with_numbers(state: State, pairs: &[(u64, u64)]) -> State {
     let mut state = state;
     for (group, number) in pairs {
@@ -165,7 +165,7 @@ fn after_act(state: State, act: &Act) -> State {
     }
 }
 
-/// How many entries of a group have an index below this one.
+/// The number of a group's entries with an index below this one.
 pub fn count_below(state: State, group: u64, index: u64) -> u64 {
     let before = compacted(state, group, index).words;
     let mut count: u64 = 0;
@@ -185,7 +185,7 @@ fn after_acts(state: State, acts: &[Act]) -> State {
     state
 }
 
-/// Whether a write with these numbers acts: each is greater than the one that its group keeps.
+/// Whether a write with these numbers acts: each is greater than its group's number.
 pub fn are_new(state: State, pairs: &[(u64, u64)]) -> bool {
     let mut are_new = true;
     for (group, number) in pairs {
@@ -198,7 +198,7 @@ pub fn are_new(state: State, pairs: &[(u64, u64)]) -> bool {
     are_new
 }
 
-/// The state after an operation that was done, of a group with each of its batches.
+/// The state after an operation that succeeded. For a write group all of its batches count.
 pub fn after(state: State, op: &Op) -> State {
     let mut state = state;
     match op {
@@ -221,7 +221,7 @@ pub fn after(state: State, op: &Op) -> State {
     state
 }
 
-// The word's first byte, if these are the bytes of the entry of that index.
+// The word's first byte, if these are the bytes of the entry with this index.
 fn word_of(index: u64, bytes: &[u8]) -> Option<u8> {
     match bytes {
         [digit, b':', word, ..] if u64::from(*digit) == index.saturating_add(48) => Some(*word),
@@ -229,7 +229,7 @@ fn word_of(index: u64, bytes: &[u8]) -> Option<u8> {
     }
 }
 
-/// What an image shows.
+/// The state of an image.
 pub fn state_of(image: &Image) -> State {
     let mut state = EMPTY;
     for group in &image.groups {
@@ -249,7 +249,7 @@ pub fn state_of(image: &Image) -> State {
     state
 }
 
-/// Whether the operation was done: a write with its record, a group, a sync, a compaction, a read.
+/// Whether the operation returned no fault.
 pub fn is_done(outcome: &Outcome) -> bool {
     match outcome {
         Outcome::Size(answer) => answer.is_ok(),
@@ -265,7 +265,7 @@ pub fn is_done(outcome: &Outcome) -> bool {
     }
 }
 
-/// The place of the first operation that failed.
+/// The index of the first operation that failed.
 pub fn first_refused(outcomes: &[Outcome]) -> Option<usize> {
     for (place, outcome) in outcomes.iter().enumerate() {
         if !is_done(outcome) {
@@ -283,7 +283,7 @@ fn asks_for_sync(parts: &[(Vec<Act>, bool)]) -> bool {
     asks
 }
 
-// Whether all that was done before is safe after the operation.
+// Whether all earlier operations are durable after this one.
 fn covers(op: &Op) -> bool {
     match op {
         Op::Write(_, sync) => *sync,
@@ -295,7 +295,7 @@ fn covers(op: &Op) -> bool {
     }
 }
 
-// The state as an image shows it.
+// The state without the parts that no image shows.
 fn shown(state: State) -> State {
     State {
         numbers: [0; 4],
@@ -303,8 +303,8 @@ fn shown(state: State) -> State {
     }
 }
 
-/// Whether a log that was answered so may hold the state after a crash: that of the operations done up to a place at
-/// or after the last one that made sure of them, or of all of them and the one in which the engine failed.
+/// Whether a log may have this state after a crash: the state after the operations up to one that
+/// isn't before the last durable one, or after all of them and the one in which the engine failed.
 pub fn is_allowed(
     ops: &[Op],
     outcomes: &[Outcome],
@@ -328,10 +328,11 @@ pub fn is_allowed(
     }
 }
 
-/// No more log files than this come of the operations, also where one of them finds no space and goes on to a next one.
+/// The operations make at most this number of log files, also if one finds no space and continues
+/// in a next file.
 pub const MAX_FILES: usize = 16;
 
-/// A log file is full once it has 1 KB, and two of them are purged.
+/// Settings: a log file is full at 1 KB, and the Append queue is purged above 1 KB.
 pub fn settings(alloc: Global) -> Result<Config, AllocError> {
     let mut config = Config::fresh(alloc);
     config.dir.push_str("raft")?;
@@ -347,8 +348,8 @@ pub fn settings_in(alloc: Global, mode: RecoveryMode) -> Result<Config, AllocErr
     Ok(config)
 }
 
-/// Operations on the four keys and the entries. With these settings they fill three files, and what is read of an entry
-/// last stands in one before.
+/// Operations on the four keys and the entries. With these settings they fill three files, and the
+/// entry that is read last is in an earlier file.
 static OPERATIONS: [Plan; 15] = [
     Plan::Write(&[Change::Put(1, b"a", &[1])], true),
     Plan::Write(
@@ -379,8 +380,9 @@ static OPERATIONS: [Plan; 15] = [
     Plan::Write(&[Change::Clean(2), Change::Compact(3, 4)], false),
 ];
 
-/// Operations on the same keys and entries, with each purge of them: keys that are put again, deleted and cleaned,
-/// entries that are written again and compacted, what was rewritten once rewritten again, and what was removed since.
+/// Operations on the same keys and entries among all purges: keys that are put again, deleted and
+/// cleaned, entries that are written again and compacted, rewritten data that is rewritten again,
+/// and data that was removed since.
 static PURGES: [Plan; 14] = [
     Plan::Write(
         &[Change::Put(1, b"a", &[1; 900]), Change::Put(2, b"c", &[1])],
@@ -412,8 +414,8 @@ static PURGES: [Plan; 14] = [
     Plan::PurgeStale,
 ];
 
-/// .. with purges of what the queues need: of the Append queue each time, of the Rewrite queue once most of what was
-/// rewritten is garbage.
+/// The same with purges of what the queues need: of the Append queue each time, and of the Rewrite
+/// queue once most of the rewritten data is garbage.
 static EXPIRED: [Plan; 13] = [
     Plan::Write(
         &[
@@ -449,7 +451,7 @@ static EXPIRED: [Plan; 13] = [
     Plan::Purge,
 ];
 
-/// Entries of one group that are too many for one batch where they are rewritten first.
+/// Entries of one group that are too many for one batch when they are first rewritten.
 static REWRITTEN_IN_PARTS: [Plan; 3] = [
     Plan::Write(&[Change::LongEntries(3, 1, 3, b'x', 66_000)], true),
     Plan::RewriteAppend(None, None),
@@ -465,7 +467,8 @@ pub enum Sequence {
     InParts,
 }
 
-/// The operations of a list: the one call that names their table, since a proof has all of it at each step.
+/// The operations of a list. Only this function names their tables, since a proof has the whole
+/// table at each step.
 pub fn plans_in(sequence: Sequence) -> &'static [Plan] {
     match sequence {
         Sequence::Operations => OPERATIONS.as_slice(),

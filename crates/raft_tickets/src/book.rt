@@ -1,4 +1,4 @@
-//! The history that threads saw, beside the words of the shared engine that makes it.
+//! The history that threads have seen, and the shared word with its length.
 ghost use Rattle.std.specs.Prelude.{◌≡◌, ◌==◌, ◌++◌, ◌∷◌, ◌⊎◌, [], length, IfSome};
 ghost use mathlib.Core.List.{IsPrefix};
 ghost use Rattle.raft_shared.specs.Words.{event_of};
@@ -11,7 +11,7 @@ use std::marker::{Brand, Model, PhantomData};
 /// More calls than a history can have.
 const MOST: u64 = 1 << 62;
 
-/// The rule of a book: its word is the length of its history.
+/// The rule of a book: its word is the length of the history.
 pub struct Law;
 
 impl Rule<Recorded, u64> for Law {
@@ -32,7 +32,7 @@ impl Rule<Recorded, u64> for Law {
     ghost moves = { λ ask before after answer. Unit {0} };
 }
 
-/// Who adds a call trades nothing.
+/// The protocol of a step that exchanges nothing.
 pub struct Nothing;
 
 impl Gain<Recorded, u64> for Nothing {
@@ -50,7 +50,7 @@ impl Play<Recorded, u64> for Add {
     ghost then = { Adds };
 }
 
-/// What a step asks for: the call.
+/// The argument of a step: the call.
 impl Plain<Recorded, Recorded, u64> for Add {
     ghost use Rattle.std.specs.Prelude.{None};
 
@@ -59,8 +59,8 @@ impl Plain<Recorded, Recorded, u64> for Add {
     ghost state = { λ call. None };
 }
 
-/// The identity of a book, and the origin of the engine whose calls it has. Each call of a program
-/// picks it.
+/// The identity of a book, and the origin of the engine whose calls it has. Each program chooses a
+/// type for it.
 pub trait Naming {
     ghost use Rattle.std.specs.Prelude.{Option};
     ghost use Rattle.logbook.specs.Pages.{Book};
@@ -79,7 +79,7 @@ impl Naming for Brand {
     ghost origin = { None };
 }
 
-/// A book with an empty history, which has no name yet.
+/// A book with an empty history, before it has a name.
 pub struct Opened {
     head: Word<Recorded, u64, Law>,
     seen: Seen<Recorded, u64, Law>,
@@ -96,7 +96,7 @@ impl Opened {
         }
     }
 
-    /// The book under a name, and the front that has seen nothing.
+    /// Gives the book a name. Returns it with a front of no calls.
     pub(crate) fn named<J: Naming>(self) -> (Book<J>, Front<J>)
         requires { self.seen.book ≡ J.book }
         ensures { result.1 ≡ [] }
@@ -116,7 +116,7 @@ impl Opened {
     }
 }
 
-/// The word that all threads share: how many calls the history has.
+/// The word that all threads share: the number of calls in the history.
 #[derive(Drop)]
 pub(crate) struct Book<J: Naming> {
     head: Word<Recorded, u64, Law>,
@@ -124,8 +124,8 @@ pub(crate) struct Book<J: Naming> {
     ghost head_is: { head ≡ head_of J.book },
 }
 
-/// A beginning of the one history, which somebody saw. Contracts see it as its calls; at run time
-/// it is their number.
+/// A beginning of the one history, as some thread saw it. Contracts see it as its calls; at run
+/// time it is their number.
 #[derive(Drop)]
 pub struct Front<J: Naming> {
     calls: u64,
@@ -146,14 +146,14 @@ impl<J: Naming> Model for Front<J> {
 }
 
 impl<J: Naming> Front<J> {
-    /// How many calls it has.
+    /// The number of calls.
     pub fn len(&self) -> u64
         ensures value { result ≡ length self.now }
     {
         self.calls
     }
 
-    /// Whether it has none.
+    /// Whether there are no calls.
     pub fn is_empty(&self) -> bool
         ensures value { result ≡ (length self.now == 0) }
     {
@@ -171,7 +171,7 @@ impl<J: Naming> Front<J> {
         }
     }
 
-    /// The longer of two fronts, which the other begins.
+    /// The longer one of two fronts. The other one is its beginning.
     pub fn longer(&self, other: &Front<J>) -> Front<J>
         ensures one { (result ≡ self.now) ⊎ (result ≡ other.now) }
         ensures this { IsPrefix self.now result }
@@ -186,7 +186,8 @@ impl<J: Naming> Front<J> {
         }
     }
 
-    /// Adds a call to all that was seen. None if the history is longer, and has other calls there.
+    /// The front with one more call. `None` if the history is longer and has another call at this
+    /// place.
     pub(crate) fn with(&self, book: &Book<J>, call: &Recorded) -> Option<Front<J>>
         ensures value { IfSome result (λ front. front ≡ self.now ++ event_of call.now ∷ []) }
     {

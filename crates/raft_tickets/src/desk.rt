@@ -1,4 +1,4 @@
-//! A shared engine, beside the front that its history is.
+//! A shared engine, and the front that is its history.
 ghost use Rattle.std.specs.Prelude.{◌≡◌, ◌⊎◌, ◌↔◌, ◌≤◌, ◌+◌, ◌-◌, ◌^◌, ◌++◌, ◌∷◌, [], false, true, length, map, take, OnErr, IfOk, IfErr, IfNone, IfSome, IsOk, IsSomeAnd, Some, if◌then◌else◌};
 ghost use Rattle.std.proofs.Props.{props};
 ghost use mathlib.Core.List.{IsPrefix};
@@ -15,21 +15,21 @@ use crate::ticket::Durable;
 use raft_log_engine::{Fault, FileSystem, LogBatch};
 use raft_shared::{Finished, Purged, Receipt, Recorded, Reply, Seat, Shared, Unfinished};
 
-/// A shared engine, which lies under a lock. Its front begins its history: it is all of it, unless
-/// the book has calls of another engine.
+/// A shared engine, which is kept under a lock. Its front is a beginning of its history, and the
+/// whole history unless the book has calls of another engine.
 #[derive(Drop)]
 pub struct Desk<F: FileSystem, J: Naming> {
     shared: Shared<F>,
     front: Front<J>,
-    // The place of the last sync or purge that returned `Ok`.
+    // The place in the history of the last sync or purge that returned `Ok`.
     synced: Option<usize>,
     ghost begins: { take (length front) (history_of shared) ≡ front } by { Prim.hlevel props },
     ghost durable: { AreDurableTo synced shared } by { Prim.hlevel props },
     ghost origin: { J.origin ≡ Some (origin_of shared) } by { Prim.hlevel props },
 }
 
-/// A call's receipt, and the history that ends with the call. None if the book has other calls
-/// there.
+/// A call's receipt, and the history that ends with the call; `None` if the book has another call
+/// at this place.
 #[derive(Drop)]
 pub struct Noted<J: Naming> {
     pub receipt: Receipt,
@@ -40,7 +40,7 @@ impl<F: FileSystem, J: Naming> Desk<F, J> {
     ghost use Rattle.raft_shared.specs.Settled.{AreSettled};
     ghost use Rattle.raft_shared.specs.Shared.{HasRecordedNothing, IsButSeats, RecordsGet, RecordsPurge, RecordsSync, RecordsWrite, engine_of, receipts_of, seats_of};
 
-    /// An engine that was just shared, with the front of a book that was just opened.
+    /// Joins an engine that was just shared and the front of a book that was just opened.
     pub(crate) fn new(shared: Shared<F>, front: Front<J>) -> Desk<F, J>
         requires front { front ≡ [] }
         requires origin { J.origin ≡ Some (origin_of shared) }
@@ -53,7 +53,7 @@ impl<F: FileSystem, J: Naming> Desk<F, J> {
         }
     }
 
-    /// `Shared::seat`.
+    /// Calls `Shared::seat`.
     pub fn seat(&mut self) -> Result<Seat, Fault>
         ensures ok { IfOk result (λ seat. (seat.number ≡ seats_of self.old.shared)
             × (receipts_of seat ≡ [])
@@ -67,7 +67,7 @@ impl<F: FileSystem, J: Naming> Desk<F, J> {
         self.shared.seat()
     }
 
-    /// `Shared::write` without a sync.
+    /// Calls `Shared::write` without a sync.
     pub(crate) fn write(
         &mut self,
         book: &Book<J>,
@@ -84,7 +84,7 @@ impl<F: FileSystem, J: Naming> Desk<F, J> {
         Ok(note(&mut self.front, book, number, receipt))
     }
 
-    /// `Shared::sync`.
+    /// Calls `Shared::sync`.
     pub(crate) fn sync(&mut self, book: &Book<J>, seat: &mut Seat) -> Result<Noted<J>, Fault>
         ensures { NotesCall (RecordsSync self.old.shared self.new.shared seat.old seat.new)
             (HasRecordedNothing self.old.shared self.new.shared seat.old seat.new) seat.old.number
@@ -96,7 +96,7 @@ impl<F: FileSystem, J: Naming> Desk<F, J> {
         Ok(note(&mut self.front, book, number, receipt))
     }
 
-    /// `Shared::purge_expired_files`.
+    /// Calls `Shared::purge_expired_files`.
     pub(crate) fn purge_expired_files(
         &mut self,
         book: &Book<J>,
@@ -117,7 +117,7 @@ impl<F: FileSystem, J: Naming> Desk<F, J> {
         Ok(Purged { receipt, asked })
     }
 
-    /// `Shared::get`.
+    /// Calls `Shared::get`.
     pub(crate) fn get(
         &mut self,
         book: &Book<J>,
@@ -134,9 +134,9 @@ impl<F: FileSystem, J: Naming> Desk<F, J> {
         Ok(note(&mut self.front, book, number, receipt))
     }
 
-    /// Whether a front that somebody saw begins this engine's history, to the length that is known.
-    /// That holds for each front that is no longer than the desk's own. `false` says nothing else;
-    /// it comes only if the book has calls of another engine.
+    /// Whether the front is a beginning of this engine's history. That holds for each front that
+    /// is no longer than the desk's own one. `false` proves nothing: it is returned only if the
+    /// book has calls of another engine.
     pub fn has(&self, front: &Front<J>) -> bool
         ensures value { result ≡ true → IsPrefix front.now (history_of self.now.shared) }
         ensures settled { (result ≡ true) ↔ (length front.now ≤ length self.now.front) }
@@ -144,14 +144,14 @@ impl<F: FileSystem, J: Naming> Desk<F, J> {
         if front.len() > self.front.len() {
             return false;
         }
-        // It shows clauses that both are beginnings of one list.
+        // Shows to clauses that both are beginnings of one list.
         let _both = self.front.longer(front);
         true
     }
 
-    /// Whether a witness is of this engine's history, to the length that `has` knows, and of a sync
-    /// that is no later than the last successful sync or purge. Then a crash from now on leaves
-    /// what the first calls of the history left, the witness's batch among them, and possibly more.
+    /// Whether the witness is of this engine's history, and of a sync that isn't later than the
+    /// last successful sync or purge. Then a crash from now on leaves the first calls of the
+    /// history, with the witness's batch among them, and perhaps more.
     pub fn finds(&self, durable: &Durable<J>) -> bool
         ensures value { result ≡ true
             → IsFound durable.now.number durable.now.front self.now.shared }
@@ -165,7 +165,7 @@ impl<F: FileSystem, J: Naming> Desk<F, J> {
         }
     }
 
-    /// `Shared::finish`.
+    /// Calls `Shared::finish`.
     pub fn finish(self, seats: Vec<Seat>) -> Result<Finished<F>, Unfinished<F>>
         ensures ok { IfOk result (λ done. (done.engine ≡ engine_of self.shared)
             × (map event_of done.trail.items ≡ history_of self.shared)) }
@@ -179,7 +179,7 @@ impl<F: FileSystem, J: Naming> Desk<F, J> {
     }
 }
 
-// The place of the last successful sync or purge, after one that has this receipt.
+// The place of the last successful sync or purge, after the call with this receipt.
 fn synced_by(before: Option<usize>, receipt: &Receipt) -> Option<usize>
     ensures value { result ≡ (if is_done (told_by receipt.now).answer then Some receipt.now.number
         else before) }
@@ -190,7 +190,7 @@ fn synced_by(before: Option<usize>, receipt: &Receipt) -> Option<usize>
     }
 }
 
-// Adds a call to a front that ends before it, if the book has no other call there.
+// Adds a call to a front that ends before it, unless the book has another call at this place.
 fn note<J: Naming>(front: &mut Front<J>, book: &Book<J>, seat: usize, receipt: Receipt) -> Noted<J>
     ensures receipt { result.receipt ≡ receipt }
     ensures some { IfSome result.front (λ longer. (front.new ≡ longer)

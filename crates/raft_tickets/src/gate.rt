@@ -1,16 +1,16 @@
-//! The writing threads, the leading one, and the last successful sync.
+//! Which threads write, which one leads, and the last successful sync.
 ghost use Rattle.std.specs.Prelude.{◌≡◌, IfOk, IfErr};
 
 use crate::book::Naming;
 use crate::ticket::{Covered, Durable, Ticket};
 
-/// What threads share about their rounds.
+/// The state of the threads' rounds.
 #[derive(Drop)]
 pub(crate) struct Gate<J: Naming> {
-    // How many writes were announced, and how many of these are done.
+    // The numbers of writes that have begun, and of those that are finished.
     announced: u64,
     written: u64,
-    // One of those that wait is at the disk, or about to be.
+    // Whether one of the waiting threads syncs, or is about to.
     leading: bool,
     covered: Option<Covered<J>>,
 }
@@ -35,7 +35,7 @@ impl<J: Naming> Gate<J> {
         self.written = self.written.wrapping_add(1);
     }
 
-    /// How many writes a leader waits for: the announced ones, up to a bound.
+    /// The number of writes that a leader waits for: those that have begun, up to a bound.
     pub(crate) fn awaited(&self, bound: u64) -> u64 {
         let missing = self.announced.wrapping_sub(self.written);
         self.written.wrapping_add(missing.min(bound))
@@ -49,8 +49,8 @@ impl<J: Naming> Gate<J> {
         self.leading = leading;
     }
 
-    /// Whether the ticket at this place has to wait: another one leads, and no sync after it has
-    /// succeeded.
+    /// Whether the ticket at this place has to wait: another thread leads, and no sync after its
+    /// write has succeeded.
     pub(crate) fn holds_back(&self, number: usize) -> bool {
         self.leading && !self.covers(number)
     }
@@ -68,7 +68,7 @@ impl<J: Naming> Gate<J> {
         }
     }
 
-    /// The ticket's result, if a sync after it has succeeded.
+    /// The ticket's result, if a sync after its write has succeeded; otherwise the ticket.
     pub(crate) fn answer(&self, ticket: Ticket<J>) -> Result<Durable<J>, Ticket<J>>
         ensures ok { IfOk result (Answers ticket) }
         ensures err { IfErr result (λ back. back ≡ ticket) }

@@ -1,5 +1,5 @@
-//! One sync for many threads: each writes its batches by itself, and those that wait for the disk
-//! share its result.
+//! One sync for many threads: each writes its own batches, and those that wait for the disk share
+//! the result of one sync.
 #![tactic(auto)]
 
 mod book;

@@ -1,4 +1,4 @@
-//! Tickets of batches that wait for a sync, and their results.
+//! Tickets of batches that wait for a sync, and the witnesses that replace them.
 ghost use Rattle.std.specs.Prelude.{◌≡◌, ◌⊎◌, ◌↔◌, ◌<◌, ℕ, true, slice_get, Err, Ok, IfOk, IfErr, IsOk};
 ghost use mathlib.Core.List.{IsPrefix};
 ghost use Rattle.raft_shared.specs.History.{Done, Size};
@@ -9,8 +9,8 @@ use crate::book::{Front, Naming};
 use raft_log_engine::Fault;
 use raft_shared::{Receipt, Reply};
 
-/// An accepted batch that waits for a sync: its place in the history, and the length of its record.
-/// Its result uses it up.
+/// An accepted batch that waits for a sync: its place in the history, and its record's length. The
+/// result consumes the ticket.
 #[derive(Drop)]
 pub struct Ticket<J: Naming> {
     front: Front<J>,
@@ -19,7 +19,7 @@ pub struct Ticket<J: Naming> {
     ghost written: { is_write_at number front ≡ true },
 }
 
-/// A successful sync, by its place in the history.
+/// A successful sync and its place in the history.
 #[derive(Drop)]
 pub(crate) struct Covered<J: Naming> {
     front: Front<J>,
@@ -27,7 +27,7 @@ pub(crate) struct Covered<J: Naming> {
     ghost synced: { is_sync_at number front ≡ true },
 }
 
-/// A witness that an accepted batch comes before a successful sync in the history.
+/// A witness that a successful sync follows an accepted batch in the history.
 #[derive(Drop)]
 pub struct Durable<J: Naming> {
     front: Front<J>,
@@ -42,8 +42,8 @@ pub struct Durable<J: Naming> {
 impl<J: Naming> Ticket<J> {
     ghost use Rattle.raft_tickets.specs.Answer.{Answers};
 
-    // The ticket of a write that has this receipt, in a history that has it. Otherwise the fault
-    // that the engine returned, or `Layer` for the receipt of another call.
+    // The ticket of the write with this receipt, in a history that has it. Otherwise the engine's
+    // fault, or `Layer` for the receipt of another call.
     pub(crate) fn of(receipt: Receipt, front: Front<J>) -> Result<Ticket<J>, Fault>
         requires { (size : ℕ) → (told_by receipt).answer ≡ Size (Ok size)
             → is_write_at receipt.number front ≡ true }
@@ -65,21 +65,21 @@ impl<J: Naming> Ticket<J> {
         }
     }
 
-    /// The place of its write in the history.
+    /// The place of its write in the history, counted from 0.
     pub fn number(&self) -> usize
         ensures value { result ≡ self.now.number }
     {
         self.number
     }
 
-    /// The length of its record.
+    /// The length of its record in bytes.
     pub fn size(&self) -> usize
         ensures value { result ≡ self.now.size }
     {
         self.size
     }
 
-    /// Its result by a sync that comes after its write; otherwise the ticket again.
+    /// The witness, if the sync comes after the ticket's write; otherwise the ticket.
     #[tactic(auto, using(crate::proofs::Witnesses::is_write_still, crate::proofs::Witnesses::is_sync_still, crate::proofs::Witnesses::write_stays))]
     pub(crate) fn covered_by(self, covered: &Covered<J>) -> Result<Durable<J>, Ticket<J>>
         ensures ok { IfOk result (Answers self) }
@@ -104,8 +104,8 @@ impl<J: Naming> Ticket<J> {
 }
 
 impl<J: Naming> Covered<J> {
-    // The sync that has this receipt, in a history that has it. Otherwise the fault that the engine
-    // returned, or `Layer` for the receipt of another call.
+    // The sync with this receipt, in a history that has it. Otherwise the engine's fault, or
+    // `Layer` for the receipt of another call.
     pub(crate) fn of(receipt: Receipt, front: Front<J>) -> Result<Covered<J>, Fault>
         requires { (told_by receipt).answer ≡ Done (Ok tt)
             → is_sync_at receipt.number front ≡ true }
@@ -122,7 +122,7 @@ impl<J: Naming> Covered<J> {
         }
     }
 
-    /// The place of the sync in the history.
+    /// The place of the sync in the history, counted from 0.
     pub(crate) fn number(&self) -> usize
         ensures value { result ≡ self.now.number }
     {
@@ -140,14 +140,14 @@ impl<J: Naming> Covered<J> {
 }
 
 impl<J: Naming> Durable<J> {
-    /// The place of its write in the history.
+    /// The place of its write in the history, counted from 0.
     pub fn number(&self) -> usize
         ensures value { result ≡ self.now.number }
     {
         self.number
     }
 
-    /// The place of a successful sync after it.
+    /// The place of a successful sync after the write.
     pub fn sync(&self) -> usize
         ensures value { result ≡ self.now.sync }
         ensures before { self.now.number < result }
@@ -156,14 +156,14 @@ impl<J: Naming> Durable<J> {
         self.sync
     }
 
-    /// The length of its record.
+    /// The length of its record in bytes.
     pub fn size(&self) -> usize
         ensures value { result ≡ self.now.size }
     {
         self.size
     }
 
-    /// The history that has both.
+    /// The history with the write and the sync.
     pub fn front(&self) -> &Front<J>
         ensures value { result.now ≡ self.now.front }
     {

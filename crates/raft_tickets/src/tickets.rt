@@ -13,15 +13,15 @@ use raft_log_engine::{Fault, FileSystem, LogBatch};
 use raft_shared::{Purged, Seat, Shared};
 use std::sync::{Condvar, Mutex, Wait};
 
-/// A shared engine for threads that wait for the disk together.
+/// A shared engine whose threads share syncs.
 #[derive(Drop)]
 pub struct Tickets<F: FileSystem, J: Naming> {
     book: Book<J>,
     desk: Mutex<Desk<F, J>>,
     gate: Mutex<Gate<J>>,
-    // A write is done, for the one that leads.
+    // A write is finished; the leading thread waits for it.
     written: Condvar,
-    // A sync has returned, for those that wait.
+    // A sync has returned; waiting threads wait for it.
     answered: Condvar,
     bound: u64,
 }
@@ -30,8 +30,8 @@ impl<F: FileSystem, J: Naming> Tickets<F, J> {
     ghost use Rattle.raft_shared.specs.Shared.{receipts_of};
     ghost use Rattle.raft_tickets.specs.Answer.{Answers};
 
-    /// Tickets for an engine that was newly shared. The leading thread waits for at most `bound`
-    /// writes that have begun before it syncs.
+    /// Makes tickets for an engine that was just shared. Before it syncs, the leading thread waits
+    /// for the writes that have begun, at most `bound` of them.
     pub fn new(opened: Opened, shared: Shared<F>, bound: u64) -> Tickets<F, J>
         requires book { opened.seen.book ≡ J.book }
         requires origin { J.origin ≡ Some (origin_of shared) }
@@ -47,7 +47,7 @@ impl<F: FileSystem, J: Naming> Tickets<F, J> {
         }
     }
 
-    /// `Shared::seat`.
+    /// Calls `Shared::seat`.
     pub fn seat<R: Wait>(&self, rt: &R) -> Result<Seat, Fault>
         ensures ok { IfOk result (λ seat. receipts_of seat ≡ []) }
         ensures cause { IfErr result (λ e. e ≡ Fault.Range) }
@@ -55,11 +55,11 @@ impl<F: FileSystem, J: Naming> Tickets<F, J> {
         self.desk.lock(rt).seat()
     }
 
-    /// Writes a batch without a sync: a ticket for it if the engine accepted it, which leaves the
-    /// batch empty. Otherwise it fails as the engine did, or with `TrailFull` or `Memory` if the
-    /// engine wasn't called. `Layer` is for a book that has calls of another engine. A refused
-    /// batch is as it was, unless the engine returned `Io` or `Memory`, since it may have failed
-    /// then.
+    /// Writes a batch without a sync. Returns a ticket if the engine accepted it; then the batch
+    /// is empty. It fails with the engine's fault, or with `TrailFull` or `Memory` if the engine
+    /// wasn't called, or with `Layer` if the book has calls of another engine. A refused batch
+    /// keeps its items, unless the fault is the engine's `Io` or `Memory`, in which the engine may
+    /// have failed.
     #[tactic(auto, using(crate::proofs::Noting::leaves_empty, crate::proofs::Noting::is_heard, crate::proofs::Noting::is_told_at, crate::proofs::Noting::is_told, crate::proofs::Telling::keeps_refused, crate::proofs::Telling::keeps_same))]
     pub fn write<R: Wait>(
         &self,
@@ -90,9 +90,9 @@ impl<F: FileSystem, J: Naming> Tickets<F, J> {
         }
     }
 
-    /// Waits until a sync after the ticket's write has returned, in this thread or another one: a
-    /// witness for the same batch. If this thread made the sync, it fails as the engine did, and as
-    /// `write` does.
+    /// Waits until a sync after the ticket's write has returned, in this thread or another one.
+    /// Returns a witness for the same batch. If this thread made the sync, it fails with the
+    /// engine's fault, or as `write` does.
     pub fn wait<R: Wait>(
         &self,
         rt: &R,
@@ -118,8 +118,8 @@ impl<F: FileSystem, J: Naming> Tickets<F, J> {
         }
     }
 
-    // The ticket's result. If there is none yet and nobody leads: the ticket, and this thread
-    // leads.
+    // The ticket's result, if there is one. Otherwise the ticket, when no thread leads; then this
+    // thread leads.
     fn turn<R: Wait>(&self, rt: &R, ticket: Ticket<J>) -> Result<Durable<J>, Ticket<J>>
         ensures ok { IfOk result (Answers ticket) }
         ensures err { IfErr result (λ back. back ≡ ticket) }
@@ -135,7 +135,7 @@ impl<F: FileSystem, J: Naming> Tickets<F, J> {
         answer
     }
 
-    // Lets the writes that are under way go first.
+    // Waits for the writes that have begun.
     fn gather<R: Wait>(&self, rt: &R) {
         let gate = self.gate.lock(rt);
         let awaited = gate.awaited(self.bound);
@@ -144,7 +144,7 @@ impl<F: FileSystem, J: Naming> Tickets<F, J> {
             .wait_while(rt, gate, |gate| !gate.has_written(awaited));
     }
 
-    // A sync of the engine, with its place in the history.
+    // Syncs the engine, and notes the sync's place in the history.
     #[tactic(auto, using(crate::proofs::Noting::is_told))]
     fn sync<R: Wait>(&self, rt: &R, seat: &mut Seat) -> Result<Covered<J>, Fault>
         ensures ok { OnOk result (IsTold Sync (Done (Ok tt)) seat.old seat.new) }
@@ -159,7 +159,7 @@ impl<F: FileSystem, J: Naming> Tickets<F, J> {
         }
     }
 
-    // Shows the result of a sync, and lets another thread lead.
+    // Shows the result of a sync to the others, and lets another thread lead.
     fn hand_over<R: Wait>(&self, rt: &R, synced: &Result<Covered<J>, Fault>) {
         let mut gate = self.gate.lock(rt);
         if let Ok(covered) = synced {
@@ -170,8 +170,8 @@ impl<F: FileSystem, J: Naming> Tickets<F, J> {
         self.answered.notify_all();
     }
 
-    /// `write`, and then `wait`. If the wait fails, the batch is accepted all the same, as the seat
-    /// records, and empty.
+    /// Calls `write` and then `wait`. If only the wait fails, the batch was accepted and is empty,
+    /// as the seat records.
     pub fn write_synced<R: Wait>(
         &self,
         rt: &R,
@@ -194,8 +194,8 @@ impl<F: FileSystem, J: Naming> Tickets<F, J> {
         self.wait(rt, seat, ticket)
     }
 
-    /// `Shared::get`, for any thread, with the history up to it, unless the book has other calls
-    /// there.
+    /// Calls `Shared::get`, from any thread. The result has the history up to this call, unless
+    /// the book has another call at its place.
     #[tactic(auto, using(crate::proofs::Noting::is_told_at))]
     pub fn get<R: Wait>(
         &self,
@@ -216,7 +216,7 @@ impl<F: FileSystem, J: Naming> Tickets<F, J> {
         self.desk.lock(rt).get(&self.book, seat, group, key)
     }
 
-    /// `Shared::purge_expired_files`, for any thread.
+    /// Calls `Shared::purge_expired_files`, from any thread.
     #[tactic(auto, using(crate::proofs::Noting::is_told_at))]
     pub fn purge_expired_files<R: Wait>(
         &self,
@@ -236,9 +236,9 @@ impl<F: FileSystem, J: Naming> Tickets<F, J> {
             .purge_expired_files(&self.book, seat, barrier)
     }
 
-    /// The engine and its history, when no thread needs them any more. The engine comes from the
-    /// one that was passed in: it has its settings and what its opening found, and its history
-    /// begins with what that engine held.
+    /// Returns the engine with its history, after the threads have ended. It has the settings of
+    /// the engine that was passed to `new`, and the same record of what its opening found. Its
+    /// history begins with that engine's contents.
     pub fn into_desk(self) -> Desk<F, J>
         ensures origin { J.origin ≡ Some (origin_of result.shared) }
     {

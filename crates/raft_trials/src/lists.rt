@@ -1,4 +1,4 @@
-//! Lists of operations with their settings, and what may be left of them.
+//! Lists of operations with their settings, and the images that may be left of them.
 
 use raft_allowed::allowed;
 use raft_records::{Fault, ReadableSize};
@@ -10,31 +10,31 @@ use std::alloc::{AllocError, Global};
 #[derive(Drop)]
 pub(crate) struct List {
     pub(crate) done: Vec<Op>,
-    /// The same operations, from which is told what may be left.
+    /// The operations from which the allowed images are derived.
     told: Vec<Op>,
-    /// More than so many KB of log files are purged, each of which has 1 KB.
+    /// The Append queue is purged above this number of KB; each log file is full at 1 KB.
     purge_threshold: u64,
-    /// Of a torn file so many of the touched bytes stand at most.
+    /// At most this number of the bytes written since a sync are left of a torn file.
     pub(crate) kept: usize,
 }
 
-/// Of a list of large entries, which takes long, none of them.
+/// 0 for a list of large entries, which would take long.
 const KEPT: usize = 64;
 
-/// What a crash may leave of each log file.
+/// What a crash leaves of each log file.
 pub(crate) static LEFTS: [Left; 3] = [Left::All, Left::Synced, Left::Torn(7, 255)];
 
-/// What operations came to.
+/// The outcomes of operations.
 #[derive(Clone, Copy)]
 pub(crate) struct CameTo<'a> {
-    /// Whether the first opening was answered. Where it wasn't there are no outcomes.
+    /// Whether the first opening succeeded. If not, there are no outcomes.
     pub(crate) is_opened: bool,
     pub(crate) outcomes: &'a [Outcome],
     pub(crate) failed_at: Option<usize>,
 }
 
-/// A synced put, entries, and what replaces and removes some, among purges; each file is full after
-/// one or two writes.
+/// A synced put, entries, and operations that replace and remove some, among purges. Each file is
+/// full after one or two writes.
 static MIXED: [Plan; 11] = [
     Plan::Write(&[Change::Put(1, b"a", &[b'a'; 300])], true),
     Plan::Write(&[Change::Entries(2, 1, 40, &[b'x'; 57])], false),
@@ -49,7 +49,7 @@ static MIXED: [Plan; 11] = [
     Plan::PurgeStale,
 ];
 
-/// Groups of batches that go to next files.
+/// Write groups that continue in next files.
 static GROUPED: [Plan; 3] = [
     Plan::WriteGroup(&[
         (&[Change::Put(1, b"a", &[1; 500])], false),
@@ -66,10 +66,10 @@ static GROUPED: [Plan; 3] = [
     Plan::Groups,
 ];
 
-/// What stands at its end: a put, or twice a put with the same number.
+/// The end of a list: a put, or twice a put with the same number.
 static LAST: [Plan; 1] = [Plan::Write(&[Change::Put(1, b"b", b"b")], false)];
 
-/// The write, where there are numbers as one that acts once with them.
+/// The write; with numbers it becomes a `write_once`.
 pub(crate) fn numbered(alloc: Global, op: Op, pairs: &[(u64, u64)]) -> Result<Op, AllocError> {
     if pairs.is_empty() {
         return Ok(op);
@@ -80,7 +80,7 @@ pub(crate) fn numbered(alloc: Global, op: Op, pairs: &[(u64, u64)]) -> Result<Op
     }
 }
 
-/// Which operations.
+/// The operations of a list.
 #[derive(Clone, Copy)]
 enum Script {
     Mixed,
@@ -88,7 +88,7 @@ enum Script {
     Of(Sequence),
 }
 
-// Tables are named by functions of their own, since a proof has all of a table at each step.
+// Each table is named by its own function, since a proof has the whole table at each step.
 fn plans_of(script: Script) -> &'static [Plan] {
     match script {
         Script::Mixed => MIXED.as_slice(),
@@ -101,8 +101,8 @@ fn last_plans() -> &'static [Plan] {
     LAST.as_slice()
 }
 
-/// A name, operations, how often `LAST` follows them and with which numbers, and the KB of
-/// files above which they purge.
+/// A name, operations, how often `LAST` follows them, its numbers, and the KB above which the
+/// Append queue is purged.
 struct Named(&'static str, Script, u64, &'static [(u64, u64)], u64);
 
 static NAMED: [Named; 7] = [
@@ -151,7 +151,7 @@ impl List {
         }))
     }
 
-    /// What may be left is told as if each plain write were synced.
+    /// Derives the allowed images as if each plain write were synced.
     pub(crate) fn tell_as_synced(&mut self) {
         for op in self.told.iter_mut() {
             if let Op::Write(_, sync) = op {
@@ -166,7 +166,7 @@ impl List {
         Ok(config)
     }
 
-    /// Whether an image is one of what may be left then: nothing where no opening was answered.
+    /// Whether the image is allowed. If no opening succeeded, only an empty one is.
     pub(crate) fn allows(
         &self,
         alloc: Global,

@@ -1,5 +1,5 @@
-//! Trials of lists of operations, each held against what may be left; prints how many there were.
-//! README.md has the words.
+//! Trials of lists of operations, each compared with the allowed images. Prints the number of
+//! trials. README.md has the words.
 #![tactic(auto)]
 
 mod lists;
@@ -16,7 +16,7 @@ use std::env;
 use std::process::ExitCode;
 use tally::Tally;
 
-// Makes trials of this name of a list, if there are such.
+// Runs the trials of this name for a list, if the name is known.
 fn try_list(
     alloc: Global,
     list: &mut List,
@@ -35,7 +35,7 @@ fn try_list(
     Ok(true)
 }
 
-// Makes the trials that a word names, if it names any.
+// Runs the trials that a word names. Returns whether it names any.
 fn try_word(alloc: Global, word: &str, tally: &mut Tally) -> Result<bool, Fault> {
     if word == "by-hand" {
         written::each_list(alloc, tally)?;

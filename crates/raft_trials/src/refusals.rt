@@ -1,4 +1,4 @@
-//! Operations of which one call of storage is refused.
+//! Operations in which one call of storage fails.
 
 use crate::lists::{CameTo, LEFTS, List};
 use crate::tally::Tally;
@@ -14,8 +14,8 @@ use std::mem;
 
 const MAX_CALLS: u64 = 400;
 
-/// Files with an engine or without, what a crash leaves of them, what the operations came to, and what they come to if no
-/// call is refused.
+/// Files or an engine over them, the files after a crash, the outcomes of the operations, and
+/// their outcomes if no call fails.
 #[derive(Drop)]
 struct Bench<F: FileSystem> {
     held: Held<F>,
@@ -34,13 +34,13 @@ fn opens<F: Faulty>(alloc: Global, held: &mut Held<F>, list: &List) -> bool {
     }
 }
 
-// What a purge returns goes by how many files were begun.
+// The result of a purge depends on the number of files that were begun.
 fn is_as_before(outcome: &Outcome, before: &Outcome) -> bool {
     let of_purge = matches!(outcome, Outcome::Dropped(_) | Outcome::ToCompact(_));
     (of_purge && is_done(outcome)) || *outcome == *before
 }
 
-// Whether an operation may come to this, after a refused one or not.
+// Whether the operation may have this outcome, after a failed one or not.
 fn may_come(outcome: &Outcome, before: &Outcome, kind: IoKind, refused: bool) -> bool {
     match fault_of(outcome) {
         Some(Fault::Failed) => refused,
@@ -49,8 +49,8 @@ fn may_come(outcome: &Outcome, before: &Outcome, kind: IoKind, refused: bool) ->
     }
 }
 
-// Whether the operations come to the same as without the refused call up to one, if any, that says so;
-// after it none fails, except that all do if the engine failed.
+// Whether the outcomes equal those without the failed call, up to the first operation that reports
+// it. After that operation none fails, or all do because the engine failed.
 fn are_answers(outcomes: &[Outcome], before: &[Outcome], kind: IoKind) -> bool {
     let mut refused = false;
     for (outcome, before) in outcomes.iter().zip(before) {
@@ -101,13 +101,13 @@ impl<F: Faulty> Bench<F> {
         self.left.into_files();
     }
 
-    // Does the operations: whether there was memory.
+    // Runs the operations. Returns whether there was memory.
     fn runs(&mut self, alloc: Global, list: &List) -> bool {
         opens(alloc, &mut self.held, list)
             && run_held(alloc, &mut self.held, &list.done, &mut self.ran)
     }
 
-    // .. with no call refused.
+    // The same without a failing call.
     fn runs_whole(&mut self, alloc: Global, list: &List) -> bool {
         self.held.renew(alloc);
         let is_run = self.runs(alloc, list);
@@ -125,7 +125,7 @@ impl<F: Faulty> Bench<F> {
         }
     }
 
-    // Whether what a crash leaves may be left.
+    // Whether the image after a crash is allowed.
     fn is_allowed(&mut self, alloc: Global, list: &List, left: &Left) -> bool {
         let is_left = self.left.hold_left(alloc, &mut self.held, left)
             && opens(alloc, &mut self.left, list);
@@ -141,7 +141,7 @@ impl<F: Faulty> Bench<F> {
         right
     }
 
-    // The nth call of a sort is refused: whether what comes of it may come.
+    // Lets the nth call of a sort fail. Returns whether the outcomes and the images are allowed.
     fn refuse(
         &mut self,
         alloc: Global,
@@ -158,7 +158,7 @@ impl<F: Faulty> Bench<F> {
     }
 }
 
-// Each call of a sort is refused in this way.
+// Lets each call of a sort fail with this kind of fault.
 fn refuse_sort<F: Faulty>(
     alloc: Global,
     bench: &mut Bench<F>,
@@ -208,7 +208,7 @@ fn refuse_over<F: Faulty>(
     refused
 }
 
-/// Each call of each sort is refused in this way, and the files crash in three ways.
+/// Lets each call of each sort fail with this kind of fault, and crashes the files in three ways.
 pub(crate) fn each_call(
     alloc: Global,
     list: &List,

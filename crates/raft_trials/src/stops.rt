@@ -1,4 +1,5 @@
-//! Operations that stop at each call that changes files, and crash there in up to 132 ways.
+//! Operations that are stopped at each call that changes files, and crashed there in up to 132
+//! ways.
 
 use crate::lists::{CameTo, LEFTS, List};
 use crate::tally::Tally;
@@ -11,14 +12,15 @@ use std::alloc::{AllocError, Global};
 
 const MAX_CALLS: u64 = 400;
 
-/// So many openings after a crash are to succeed, each stopped one call later than the one before.
+/// The number of openings after a crash that have to succeed, each stopped one call later than the
+/// one before.
 const ANSWERED: u64 = 3;
 
-/// After a crash that leaves one of these the opening stops too.
+/// After a crash that leaves one of these, the opening is stopped too.
 static AGAIN: [Left; 2] = [Left::Synced, Left::Torn(7, 255)];
 
-// All that was not synced, nothing of it, and of the first bytes so many with the others as zeros
-// or as ones.
+// A crash leaves all unsynced bytes, none, or only a number of the first bytes, with zeros or ones
+// in place of the others.
 fn ways(alloc: Global, most: usize) -> Result<Vec<Left>, AllocError> {
     let mut ways = vec![in alloc; Left::All, Left::Synced]?;
     for kept in 0..=most {
@@ -28,7 +30,7 @@ fn ways(alloc: Global, most: usize) -> Result<Vec<Left>, AllocError> {
     Ok(ways)
 }
 
-// Whether a trial found what may be left.
+// Whether a trial found an allowed image.
 fn is_left(alloc: Global, list: &List, shown: &Trial) -> Result<bool, Fault> {
     let Ok(found) = &shown.opened else {
         return Ok(false);
@@ -45,7 +47,7 @@ fn is_stopped(ops: &[Op], shown: &Trial) -> bool {
     shown.outcomes.len() != ops.len() || first_refused(&shown.outcomes).is_some()
 }
 
-// Counts a trial that found what may not be left.
+// Counts a trial, as wrong unless it is right and found an allowed image.
 fn judge(
     alloc: Global,
     list: &List,
@@ -73,7 +75,7 @@ fn crash_to(
     Ok(is_stopped(&list.done, &shown))
 }
 
-// One crash: whether the stop came.
+// One crash. Returns whether the stop was reached.
 fn crash_at(
     alloc: Global,
     list: &List,
@@ -90,7 +92,7 @@ fn crash_at(
     )
 }
 
-// Whether the last opening found what the one before it did, if that was answered.
+// Whether the last opening found the same as the one before, if that succeeded.
 fn is_found_again(shown: &Trial) -> bool {
     match (&shown.second, &shown.opened) {
         (Some(Ok(image)), Ok(found)) => *image == *found,
@@ -99,7 +101,8 @@ fn is_found_again(shown: &Trial) -> bool {
     }
 }
 
-// The opening after a crash stops, and crashes in the same way: whether it is done all the same.
+// Stops the opening after a crash, and crashes it in the same way. Returns whether it succeeded
+// nevertheless.
 fn stop_opening(
     alloc: Global,
     list: &List,
@@ -124,7 +127,7 @@ fn stop_opening(
     Ok(matches!(&shown.second, Some(Ok(_))))
 }
 
-// .. at each call that changes files.
+// The same at each call that changes files.
 fn stop_openings(
     alloc: Global,
     list: &List,
@@ -145,8 +148,8 @@ fn stop_openings(
     Ok(())
 }
 
-// At a stop a crash in each way, and after two of these a stop at each call of the opening: whether
-// the stop came.
+// Crashes in each way at one stop, and after two of these stops the opening at each of its calls.
+// Returns whether the stop was reached.
 fn crash_each(
     alloc: Global,
     list: &List,
@@ -164,7 +167,7 @@ fn crash_each(
     Ok(stopped)
 }
 
-/// At each stop crashes, until none comes.
+/// Crashes at each stop, until a stop isn't reached.
 pub(crate) fn each_stop(alloc: Global, list: &List, tally: &mut Tally) -> Result<(), Fault> {
     let ways = ways(alloc, list.kept)?;
     for stop in 1..MAX_CALLS {
@@ -176,8 +179,8 @@ pub(crate) fn each_stop(alloc: Global, list: &List, tally: &mut Tally) -> Result
     Ok(())
 }
 
-/// At each stop a crash that leaves what was synced, where what may be left is told as if each plain
-/// write were synced. So many wrong ones are wanted, and the first isn't told.
+/// Crashes that leave only synced bytes, at each stop, compared with images derived as if each
+/// plain write were synced. That many trials must be wrong, and the first one isn't printed.
 pub(crate) fn objections(alloc: Global, list: &mut List, tally: &mut Tally) -> Result<(), Fault> {
     list.tell_as_synced();
     for stop in 1..MAX_CALLS {
@@ -190,7 +193,7 @@ pub(crate) fn objections(alloc: Global, list: &mut List, tally: &mut Tally) -> R
     Ok(())
 }
 
-// Memory is ample, or one request was refused.
+// Whether there is no fault, or one that a refused request for memory explains.
 fn is_without_memory(fault: Option<&Fault>) -> bool {
     match fault {
         Some(fault) => matches!(fault, Fault::Memory | Fault::Failed),
@@ -213,7 +216,7 @@ fn are_without_memory(shown: &Trial) -> bool {
         && are_so(&shown.outcomes)
 }
 
-// Whether a trial without a stop found what may be left, or there was no memory.
+// Whether a trial without a stop found an allowed image, or memory ran out.
 fn is_whole(alloc: Global, list: &List, shown: &Trial) -> Result<bool, Fault> {
     if !are_without_memory(shown) {
         return Ok(false);
@@ -237,7 +240,7 @@ fn crash_whole(
 }
 
 /// Crashes after all operations. If a request for memory is refused, as tools/refusals does, an
-/// operation or an opening says what it had no memory for, and what is found may be left.
+/// operation or an opening reports it, and the image is allowed.
 pub(crate) fn without_stop(alloc: Global, list: &List, tally: &mut Tally) -> Result<(), Fault> {
     for left in &LEFTS {
         crash_whole(alloc, list, &choices_of(alloc, left, MAX_FILES)?, tally)?;

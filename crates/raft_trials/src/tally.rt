@@ -1,17 +1,17 @@
-//! How many trials there were, and how many found what may not be left.
+//! Counts trials, and those that found an image that isn't allowed.
 
 use std::alloc::{AllocError, Global};
 use std::fmt;
 
 #[derive(Drop)]
 pub(crate) struct Tally {
-    /// The calls at which storage failed.
+    /// The calls of storage that failed.
     pub(crate) calls: u64,
     pub(crate) crashes: u64,
-    /// .. of which so many came in the opening after another one.
+    /// The crashes inside an opening after another crash.
     pub(crate) in_openings: u64,
     pub(crate) wrong: u64,
-    /// What the first wrong one was.
+    /// The description of the first wrong trial.
     pub(crate) first_wrong: Option<String>,
 }
 

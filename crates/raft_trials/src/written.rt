@@ -1,4 +1,5 @@
-//! Short lists of operations with their outcomes, and what may be left of them, written by hand.
+//! Short lists of operations with their outcomes, and the images that may be left of them, written
+//! by hand.
 
 use crate::lists::numbered;
 use crate::tally::Tally;
@@ -7,23 +8,23 @@ use raft_records::{Fault, IoKind};
 use raft_test_rows::{Change, Image, Op, Outcome, Plan, op_of};
 use std::alloc::{AllocError, Global};
 
-/// How an operation is answered.
+/// The result of an operation.
 #[derive(Clone, Copy)]
 enum Reply {
     Written,
-    /// Its numbers have acted.
+    /// The numbers have already acted.
     Old,
-    /// A group of two batches, of which the second is refused.
+    /// A write group of two batches, of which the second is refused.
     Grouped,
     Compacted,
     Failed,
     GroupFailed,
 }
 
-/// An operation, the numbers of a write that acts once, and how it is answered.
+/// An operation, the numbers of a `write_once`, and the result.
 struct Step(&'static [Plan], &'static [(u64, u64)], Reply);
 
-/// A group's number; its entries' first index, and words of one byte each from there on; its pairs.
+/// A group's number; the first index of its entries, and their words of one byte each; its pairs.
 #[derive(Clone, Copy)]
 struct Row(
     u64,
@@ -32,8 +33,8 @@ struct Row(
     &'static [(&'static [u8], &'static [u8])],
 );
 
-/// What it shows, operations with their answers, the place where the engine failed, and what may be
-/// left.
+/// The purpose of the case, operations with their results, the operation in which the engine
+/// failed, and the images that may be left.
 struct Case(
     &'static str,
     &'static [Step],
@@ -51,7 +52,7 @@ const ALL: Row = Row(1, 0, &[], &[(b"a", &[1]), (b"b", &[2]), (b"c", &[3])]);
 
 const ENTRIES: Row = Row(2, 1, b"ww", &[]);
 
-/// The key at which a group keeps its number.
+/// The key under which a group's number is kept.
 const NUMBER: &[u8] = b"\xffonce";
 
 static CASES: [Case; 6] = [
@@ -198,7 +199,7 @@ static CASES: [Case; 6] = [
     ),
 ];
 
-// The table is named by a function of its own, since a proof has all of it at each step.
+// The table is named by its own function, since a proof has the whole table at each step.
 fn all_cases() -> &'static [Case] {
     CASES.as_slice()
 }
@@ -239,7 +240,7 @@ fn outcomes_in(alloc: Global, steps: &[Step]) -> Result<Vec<Outcome>, AllocError
     Ok(outcomes)
 }
 
-// The text of an entry is its index, one digit, a colon and the word.
+// The text of an entry is its index as one digit, a colon and the word.
 fn is_entry(entry: &(u64, Vec<u8>), index: u64, word: u8) -> bool {
     match entry.1.as_slice() {
         [digit, b':', byte] => {
@@ -286,7 +287,7 @@ fn are_images(found: &[Image], wanted: &[&[Row]]) -> bool {
     equal
 }
 
-// Whether just these images are left, in this order.
+// Whether exactly these images are allowed, in this order.
 fn is_as_written(
     alloc: Global,
     case: &Case,
@@ -303,7 +304,8 @@ fn is_refused(answer: Result<Vec<Image>, Fault>) -> bool {
     }
 }
 
-// Whether outcomes that aren't as many as the operations are refused, and a place after them.
+// Whether a list of outcomes with another length than the operations is refused, and a place after
+// them too.
 fn misfits_are_refused(alloc: Global, ops: &[Op], outcomes: &[Outcome]) -> bool {
     is_refused(allowed(alloc, ops, &[], None))
         && is_refused(allowed(alloc, ops, outcomes, Some(ops.len())))
@@ -315,7 +317,7 @@ fn is_right(alloc: Global, case: &Case) -> Result<bool, Fault> {
     Ok(is_as_written(alloc, case, &ops, &outcomes)? && misfits_are_refused(alloc, &ops, &outcomes))
 }
 
-/// What may be left of each list.
+/// Checks the allowed images of each list.
 pub(crate) fn each_list(alloc: Global, tally: &mut Tally) -> Result<(), Fault> {
     for case in all_cases() {
         if case.2.is_some() {

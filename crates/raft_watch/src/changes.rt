@@ -1,11 +1,11 @@
-//! What a log did between two looks.
+//! The changes of a log between two looks.
 
 use raft_records::{KeyValue, LogItem, LogItemContent, LogQueue};
 use raft_whole_records::{WholeRecord, is_mark_key};
 use std::alloc::{AllocError, Global};
 use std::collections::BTreeMap;
 
-/// Records, and their bytes in log files.
+/// A number of records, and their bytes in log files.
 #[derive(Clone, Copy)]
 pub(crate) struct Volume {
     pub records: u64,
@@ -24,8 +24,8 @@ impl Volume {
     }
 }
 
-/// What was written of a group: entries, puts and deletes of keys, commands, and the bytes of
-/// entries, keys and values.
+/// What was written to a group: the numbers of entries, of puts and deletes of keys, and of
+/// commands, and the bytes of entries, keys and values.
 #[derive(Clone, Copy)]
 pub(crate) struct GroupGrowth {
     pub group: u64,
@@ -36,7 +36,7 @@ pub(crate) struct GroupGrowth {
     pub bytes: u64,
 }
 
-/// A file that no longer exists, and the bytes that it had.
+/// A file that no longer exists, and its last known length in bytes.
 #[derive(Drop)]
 pub(crate) struct Dropped {
     pub path: String,
@@ -45,18 +45,20 @@ pub(crate) struct Dropped {
 
 pub(crate) struct Changes {
     alloc: Global,
-    /// Of the Append queue: what callers write.
+    /// Records of the Append queue, which callers write.
     pub written: Volume,
-    /// Of the Rewrite queue: what purges write again.
+    /// Records of the Rewrite queue, which purges write.
     pub rewritten: Volume,
     /// The groups of the Append queue's new records.
     pub groups: BTreeMap<u64, GroupGrowth>,
     pub dropped: Vec<Dropped>,
-    /// How many files were made and dropped between two looks, by their numbers.
+    /// The number of files that were made and dropped between two looks. Gaps in the numbers show
+    /// them.
     pub unseen: u64,
 }
 
-// One call in a proof that drops it; derived, it would be one of each field (docs/DECISIONS.md).
+// One call in each proof that drops it. A derived `Drop` would be one call for each field
+// (docs/DECISIONS.md).
 impl Drop for Changes {
     fn drop(self) {
         let Changes {
@@ -82,7 +84,7 @@ impl Changes {
         }
     }
 
-    /// Adds a record that was read of a queue's file.
+    /// Adds a record of a queue's file.
     pub fn add_record(&mut self, queue: LogQueue, record: &WholeRecord) -> Result<(), AllocError> {
         if queue == LogQueue::Rewrite {
             self.rewritten.add(1, record.len as u64);
@@ -106,7 +108,7 @@ impl Changes {
         Ok(())
     }
 
-    /// The groups that grew, those with the most bytes first, so many at most.
+    /// The groups that grew, at most `limit` of them, those with the most bytes first.
     pub fn grown(&self, limit: u64) -> Result<Vec<GroupGrowth>, AllocError> {
         let mut grown = Vec::new(self.alloc);
         for (_, growth) in self.groups.iter() {
@@ -117,7 +119,7 @@ impl Changes {
         Ok(grown)
     }
 
-    /// The bytes of the files that were dropped.
+    /// The bytes of all files that were dropped.
     pub fn dropped_bytes(&self) -> u64 {
         let mut bytes = 0u64;
         for file in &self.dropped {

@@ -1,4 +1,4 @@
-//! A picture of a log on a terminal, which each look draws again.
+//! A picture of a log on a terminal, drawn again at each look.
 
 use crate::changes::{Changes, GroupGrowth, Volume};
 use crate::queues::{WatchedLog, WatchedQueue};
@@ -7,35 +7,35 @@ use anyhow::Result;
 use raft_command_line::printable;
 use std::alloc::Global;
 
-/// How many signs of the folder's path are shown: the last ones.
+/// The number of characters of the folder's path that are shown, at its end.
 const WIDTH: usize = 79;
 
-/// How many looks the row of written bytes shows.
+/// The number of looks in the row of written bytes.
 const HISTORY: usize = 60;
 
-/// How many files of a queue have a bar: the last ones. With ten groups the picture has 23 rows.
+/// The number of each queue's last files that have a bar. With ten groups the picture has 23 rows.
 const FILES: usize = 2;
 
-/// Signs from the lowest to the highest.
+/// Characters for amounts, from the lowest to the highest.
 const LEVELS: [char; 8] = ['.', ':', '-', '=', '+', '*', '#', '@'];
 
-/// Puts the terminal's cursor into the first row.
+/// Moves the terminal's cursor to the first row.
 const HOME: &str = "\x1b[H";
 
-/// Deletes the rest of a row, and begins the next one.
+/// Clears the rest of a row, and begins the next one.
 const ROW_END: &str = "\x1b[K\n";
 
-/// Deletes what is below.
+/// Clears everything below.
 const END: &str = "\x1b[J";
 
-/// What the looks so far have counted.
+/// The counts of all looks until now.
 pub(crate) struct Picture<'a> {
     alloc: Global,
     folder: &'a str,
     each: u64,
-    /// The bytes that were written between two looks, the last one last.
+    /// The bytes that were written between two looks. The newest number is last.
     written: Vec<u64>,
-    /// Dropped files in all.
+    /// All files dropped until now.
     dropped: Volume,
 }
 
@@ -62,7 +62,7 @@ impl<'a> Picture<'a> {
         }
     }
 
-    /// The rows of a look, with the groups that grew, so many at most.
+    /// Draws a look, with at most `limit` of the groups that grew.
     pub fn draw(&mut self, log: &WatchedLog, changes: &Changes, limit: u64) -> Result<String> {
         if self.written.len() >= HISTORY {
             self.written.remove(0);
@@ -146,7 +146,7 @@ impl<'a> Picture<'a> {
         self.add_row(row.as_str(), text)
     }
 
-    // A sign for each look, by how much was written.
+    // Adds a character for each look, by the bytes that were written.
     fn add_history(&self, text: &mut String) -> Result<()> {
         let mut most = 1u64;
         for bytes in &self.written {

@@ -1,5 +1,5 @@
-//! Watches a running log from outside: it lists the log's files and reads their new records, once
-//! in some seconds. It changes nothing, and the writer keeps its lock.
+//! Watches a running log from outside: every few seconds it lists the log's files and reads their
+//! new records. It changes nothing, and the writer keeps its lock.
 #![tactic(auto)]
 
 mod changes;

@@ -1,4 +1,4 @@
-//! The files of both queues, from look to look.
+//! The files of both queues, over several looks.
 
 use crate::changes::{Changes, Dropped, Volume};
 use crate::files::WatchedFile;
@@ -18,7 +18,8 @@ pub(crate) struct WatchedQueue {
     pub files: BTreeMap<u64, WatchedFile>,
 }
 
-// One call in a proof that drops it; derived, it would be one of each field (docs/DECISIONS.md).
+// One call in each proof that drops it. A derived `Drop` would be one call for each field
+// (docs/DECISIONS.md).
 impl Drop for WatchedQueue {
     fn drop(self) {
         let WatchedQueue {
@@ -29,7 +30,7 @@ impl Drop for WatchedQueue {
     }
 }
 
-/// How many files a queue has, their bytes and their records.
+/// The number of a queue's files, their bytes and their records.
 #[derive(Clone, Copy)]
 pub(crate) struct QueueTotal {
     pub files: u64,
@@ -46,7 +47,7 @@ impl WatchedQueue {
         }
     }
 
-    /// Looks at the queue's files in the folder, and adds what changed since the last look.
+    /// Looks at the queue's files in the folder, and adds the changes since the last look.
     pub fn look(
         &mut self,
         folder: &Folder,
@@ -83,8 +84,8 @@ impl WatchedQueue {
         Some(*number)
     }
 
-    // How many files are gone since the first one had this number: a queue drops its first files,
-    // and numbers rise by one.
+    // The number of files that were dropped since the first file had this number. A queue drops
+    // its first files, and numbers rise by one.
     fn gone_since(&self, first: Option<u64>) -> u64 {
         match (first, self.first_number()) {
             (Some(before), Some(now)) => now.saturating_sub(before),
@@ -134,16 +135,16 @@ fn drop_file(file: WatchedFile, changes: &mut Changes) -> Result<()> {
     Ok(())
 }
 
-/// A log that is looked at again and again.
+/// A log and what all looks at it have found.
 pub(crate) struct WatchedLog {
     alloc: Global,
     pub append: WatchedQueue,
     pub rewrite: WatchedQueue,
-    /// How many reserved files the last look found, and their bytes.
+    /// The number of reserved files at the last look, and their bytes.
     pub reserved: Volume,
-    /// Whether a writer had the folder open in the last look.
+    /// Whether a writer had the folder open at the last look.
     pub is_in_use: bool,
-    /// How many looks there were.
+    /// The number of looks.
     pub looks: u64,
 }
 
@@ -172,8 +173,8 @@ impl WatchedLog {
         }
     }
 
-    /// Looks at the folder, and returns what the log did since the last look; nothing for the
-    /// first.
+    /// Looks at the folder, and returns the log's changes since the last look; no changes at the
+    /// first one.
     pub fn look(&mut self, folder: &Folder, progress: &mut Progress) -> Result<Changes> {
         let mut changes = Changes::new(self.alloc);
         self.rewrite.look(folder, progress, &mut changes)?;

@@ -1,4 +1,4 @@
-//! Lines of what a log did.
+//! Prints the changes of a log as lines.
 
 use crate::changes::{Changes, GroupGrowth};
 use crate::queues::WatchedLog;
@@ -7,8 +7,8 @@ use raft_console::Output;
 use raft_inspect::{Field, Lines, Word};
 use std::alloc::Global;
 
-/// Prints a line for a look, one for each group that grew, so many at most, and one for each
-/// dropped file; as objects all of them are one.
+/// Prints a line for the look, one for each group that grew, at most as many as requested, and one
+/// for each dropped file. As JSON all of them are one object.
 pub(crate) fn print_look(
     alloc: Global,
     log: &WatchedLog,

@@ -1,10 +1,10 @@
-//! Numbers of bytes that people read.
+//! Sizes in bytes, for people to read.
 
 use std::alloc::{AllocError, Global};
 
 const UNITS: [&str; 4] = ["KB", "MB", "GB", "TB"];
 
-/// A number of bytes in its greatest unit of 1,024, with one digit after the point: `12.3 MB`.
+/// A size in its greatest unit of 1,024, with one digit after the point: `12.3 MB`.
 pub(crate) fn size_text(alloc: Global, bytes: u64) -> Result<String, AllocError> {
     if bytes < 1024 {
         return format!(in alloc; "{bytes} B");
@@ -24,7 +24,7 @@ pub(crate) fn size_text(alloc: Global, bytes: u64) -> Result<String, AllocError>
     format!(in alloc; "{whole}.{tenths} {unit}")
 }
 
-/// Adds a bar of `#` that is as long to its width as a part to the whole.
+/// Adds a bar of `#`, whose length is to its width as a part to the whole.
 pub(crate) fn add_bar(
     text: &mut String,
     part: u64,

@@ -1,4 +1,4 @@
-//! Looks at a log again and again.
+//! Looks at a log every few seconds.
 
 use crate::drawing::Picture;
 use crate::queues::WatchedLog;
@@ -14,9 +14,9 @@ use std::time::{Duration, Instant};
 /// Clears the terminal.
 const CLEAR: &str = "\x1b[2J";
 
-/// Prints what the log in the request's folder does, once in so many seconds: to a terminal as a
-/// picture, else as lines. Between two looks it has no lock of the folder. It fails if the folder
-/// does not exist, and if a file cannot be read.
+/// Prints the changes of the log in the request's folder every few seconds: as a picture on a
+/// terminal, otherwise as lines. Between two looks it doesn't lock the folder. It fails if the
+/// folder doesn't exist, or if a file can't be read.
 pub fn watch(rt: HostRuntime, request: &Request<'_>, asked: Watch) -> Result<Status> {
     let alloc = rt.alloc();
     let each = asked.each.max(1);
@@ -41,13 +41,13 @@ pub fn watch(rt: HostRuntime, request: &Request<'_>, asked: Watch) -> Result<Sta
         } else {
             print_look(alloc, &log, &changes, asked.groups, is_json, &mut out)?;
         }
-        // Only the first look reads all files, and takes long.
+        // Only the first look reads all files and takes long.
         progress = Progress::new(rt, true)?;
     }
     Ok(Status::Done)
 }
 
-// Waits until so many seconds have passed since the start.
+// Waits until this number of seconds after the start.
 fn wait_until(rt: &HostRuntime, start: &Instant, seconds: u64) -> Result<()> {
     let passed = u64::try_from(start.elapsed(rt)?.as_millis())?;
     let left = seconds.saturating_mul(1000).saturating_sub(passed);

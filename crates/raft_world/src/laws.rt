@@ -17,9 +17,8 @@ use raft_log_engine::laws::crash_leaves_contents;
 use raft_once::laws::a_number_acts_once;
 use raft_queue_laws::queue::{crash_leaves_a_prefix, queues_stand_side_by_side};
 
-/// The headline. After anything that may happen to a log, an engine that hasn't failed holds all
-/// that was accepted, and an opening finds what no crash takes, with a first part of the rest; or it
-/// fails, with a cause.
+/// The headline. After any events an engine that hasn't failed holds all accepted batches. An
+/// opening finds the durable batches and a first part of the others, or it fails with a cause.
 pub fn the_log_is_safe<F: FileSystem>()
     ensures { TheLogIsSafe F.FileSystem }
 {
@@ -27,7 +26,7 @@ pub fn the_log_is_safe<F: FileSystem>()
     queues_stand_side_by_side();
 }
 
-/// After an opening the events continue, with a ledger of what it found.
+/// After an opening the events continue, with a ledger of the batches that it found.
 pub fn openings_continue<F: FileSystem>()
     ensures { OpeningsContinue F.FileSystem }
 {
@@ -35,8 +34,8 @@ pub fn openings_continue<F: FileSystem>()
     queues_stand_side_by_side();
 }
 
-/// Exactly once: of what a log holds no number of a group acted twice, unless the group was cleaned
-/// between.
+/// Exactly once: in a log's contents no number of a group has acted twice, unless the group was
+/// cleaned between.
 pub fn numbers_act_once<F: FileSystem>()
     ensures { NumbersActOnce F.FileSystem }
 {
@@ -45,8 +44,8 @@ pub fn numbers_act_once<F: FileSystem>()
     a_number_acts_once();
 }
 
-/// The law for one call of an engine of whose past nothing is known: what an opening finds after a
-/// crash inside the call, or why it fails.
+/// The law for one call of an engine with an unknown past: what an opening finds after a crash
+/// inside the call, or why the opening fails.
 pub fn a_crash_in_a_call_leaves_a_prefix<F: FileSystem>()
     ensures { CrashInCall F.FileSystem }
 {
@@ -54,8 +53,8 @@ pub fn a_crash_in_a_call_leaves_a_prefix<F: FileSystem>()
     queues_stand_side_by_side();
 }
 
-/// After a crash with any damage, also if it isn't detectable, the durable batches are read first.
-/// The crash may come between two calls, or inside a call, a close or an opening.
+/// After a crash with any damage, detectable or not, an opening reads the durable batches first.
+/// The crash comes between two calls, or inside a call, a close or an opening.
 pub fn what_is_kept_is_read_first<F: FileSystem>()
     ensures { WhatIsKeptIsReadFirst F.FileSystem }
 {
@@ -65,21 +64,21 @@ pub fn what_is_kept_is_read_first<F: FileSystem>()
 }
 
 /// Between two calls the last log files of an engine that hasn't failed hold only records that
-/// calls completed, so none that was there before a renaming. This needs that only writes failed on
-/// them, and that the opening found no record of a failed call.
+/// calls completed, and none from before a renaming. The premise: on these files only writes have
+/// failed, and the opening found no record of a failed call.
 pub fn last_files_are_completed<F: FileSystem>()
     ensures { LastFilesAreCompleted F.FileSystem }
 {}
 
-/// A kill is a crash that leaves every byte as it is: a crash may leave consistent files so. All
-/// files in memory and of a folder are consistent.
+/// A kill is a crash that leaves every byte as it is, which the contract of storage allows for
+/// consistent files. All files in memory and of a folder are consistent.
 pub fn a_kill_is_a_crash()
     ensures { (n : Directory) → AreConsistent n → Leaves n (as_it_is n) }
 {}
 
-/// Each call has its effect, by its own contract: a clause for each public call that takes
-/// `&mut self` or the engine itself. A call with listeners has the clauses of the one without.
-/// `kill` is no call: the process ends between two calls.
+/// Each public call that takes `&mut self` or the engine has its effect by its own contract, one
+/// clause for each. A call with listeners has the clauses of the one without. `kill` isn't a call:
+/// the process ends between two calls.
 pub fn calls_have_effects<F: FileSystem>()
     ensures write { WriteHasEffect F.FileSystem }
     ensures write_once { WriteOnceHasEffect F.FileSystem }

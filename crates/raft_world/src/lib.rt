@@ -1,4 +1,4 @@
-//! Everything that may happen to a log, and what an opening finds after it.
+//! All events that may happen to a log, and what an opening finds after them.
 #![tactic(auto)]
 
 pub mod calls;

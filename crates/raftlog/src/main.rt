@@ -1,4 +1,4 @@
-//! Reads lines on standard input, does what each asks for over a log in memory, and prints the answers.
+//! Reads lines on standard input, carries out each over a log in memory, and prints the results.
 #![tactic(auto)]
 
 use raft_lines::{Ended, serve};

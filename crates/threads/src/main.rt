@@ -1,6 +1,6 @@
-//! Four threads share an engine and its syncs, each with a seat of its own: puts that wait for the
-//! disk, and reads. Then each put stands in the one history before an answered sync, and after a
-//! crash that leaves what was synced each value that was read is found.
+//! Four threads share an engine and its syncs. Each has a seat, puts keys that wait for the disk,
+//! and reads them. Then the program checks that each put is in the history before a successful
+//! sync, and that each value that was read is found after a crash that leaves only synced bytes.
 #![tactic(auto)]
 
 ghost use Rattle.std.specs.Prelude.{◌≡◌, Some};
@@ -20,17 +20,17 @@ const THREADS: usize = 4;
 
 const PUTS: u8 = 10;
 
-/// How many calls the history may have.
+/// The most calls of the history.
 const LIMIT: usize = 200;
 
-/// How many writes a thread waits for before it syncs.
+/// The most writes that a thread waits for before it syncs.
 const BOUND: u64 = 16;
 
 type Together<J> = Arc<Tickets<MemoryFileSystem, J>, Global>;
 
 type Worker<J> = JoinHandle<Result<Worked<J>, Fault>>;
 
-// What a thread did: its seat, with the receipts of its calls, and a witness of each of its puts.
+// The work of a thread: its seat with the receipts of its calls, and a witness for each put.
 #[derive(Drop)]
 struct Worked<J: Naming> {
     seat: Seat,
@@ -42,7 +42,7 @@ fn main(rt: HostRuntime) -> Result<()> {
     play::<Brand, _>(&rt, rt.alloc(), Opened::new(), shared, seats)
 }
 
-// A shared engine over new files, and seats at it.
+// Shares an engine over new files, and takes the seats.
 fn share<F: FileSystem + Drop>(alloc: Global, files: F) -> Result<(Shared<F>, Vec<Seat>), Fault> {
     let engine = Engine::open_in_order(alloc, Config::fresh(alloc), files)?;
     let mut shared = match Shared::new(alloc, engine, LIMIT) {
@@ -64,7 +64,7 @@ fn take_seats<F: FileSystem>(alloc: Global, shared: &mut Shared<F>) -> Result<Ve
     Ok(seats)
 }
 
-// All of it, in a book that has this name.
+// Runs the threads and the checks, with this name for the book.
 fn play<J: Naming + Send + Sync + 'static, R: Threads + Wait + Print + Copy + Send + 'static>(
     rt: &R,
     alloc: Global,
@@ -84,7 +84,7 @@ fn play<J: Naming + Send + Sync + 'static, R: Threads + Wait + Print + Copy + Se
     }
 }
 
-// What each seat did in a thread of its own.
+// Runs each seat in its own thread. Returns the seats and the witnesses.
 fn work_in_threads<J: Naming + Send + Sync + 'static, R: Threads + Wait + Copy + Send + 'static>(
     rt: &R,
     alloc: Global,
@@ -126,8 +126,8 @@ fn join_each<J: Naming + Send + 'static, R: Threads>(
     Ok((seats, all))
 }
 
-// Puts keys of a group of the seat's own, each of which waits for the disk, and reads each of them:
-// it is as it was put, since no other seat has this group.
+// Puts keys of the seat's own group, waits for each put, and reads the key. No other seat has this
+// group, so the value is the one that was put.
 fn work<J: Naming, R: Wait>(
     rt: &R,
     alloc: Global,
@@ -150,7 +150,7 @@ fn put_of(alloc: Global, group: u64, key: u8) -> Result<LogBatch, Fault> {
     Ok(batch)
 }
 
-// Whether each put stands in the engine's history before a sync that was answered.
+// Whether the history has each put before a successful sync.
 fn are_durable<F: FileSystem, J: Naming>(desk: &Desk<F, J>, all: &[Vec<Durable<J>>]) -> bool {
     for puts in all {
         for put in puts {
@@ -162,7 +162,7 @@ fn are_durable<F: FileSystem, J: Naming>(desk: &Desk<F, J>, all: &[Vec<Durable<J
     true
 }
 
-// .. and the engine with its history.
+// The same, and the engine with its history.
 fn finish<F: FileSystem + Drop, J: Naming>(
     desk: Desk<F, J>,
     seats: Vec<Seat>,
@@ -178,7 +178,7 @@ fn finish<F: FileSystem + Drop, J: Naming>(
     }
 }
 
-// Prints what the history has of the puts, and what a crash leaves.
+// Prints both results.
 fn report<J: Naming, R: Print>(
     rt: &R,
     alloc: Global,
@@ -189,12 +189,12 @@ fn report<J: Naming, R: Print>(
     let (durable, finished) = finish(desk, seats, puts)?;
     let Finished { engine, trail } = finished;
     let found = finds_each_read(after_crash(alloc, engine)?, &trail)?;
-    println!(rt; "each put stands before an answered sync: {durable}")?;
+    println!(rt; "each put is before a successful sync: {durable}")?;
     println!(rt; "each value that was read is found after a crash: {found}")?;
     Ok(())
 }
 
-// The engine that is opened where a crash has left what was synced.
+// Opens the log after a crash that leaves only synced bytes.
 fn after_crash(
     alloc: Global,
     engine: Engine<MemoryFileSystem>,
@@ -203,7 +203,7 @@ fn after_crash(
     Ok(Engine::open_in_order(alloc, Config::fresh(alloc), files)?)
 }
 
-// Whether each read found a value, and the engine has it, which then ends.
+// Whether each read found a value, and the engine has it. Then gives up the engine.
 fn finds_each_read<F: FileSystem + Drop>(
     engine: Engine<F>,
     trail: &[Recorded],
