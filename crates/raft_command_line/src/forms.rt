@@ -123,7 +123,7 @@ pub(crate) static OPTIONS: [Word; 8] = [
     Word(
         "settings",
         Kind::NamedText,
-        "A file of settings in TOML; else FOLDER/raftlog.toml where that stands",
+        "A file of settings in TOML; otherwise FOLDER/raftlog.toml if it exists",
     ),
     Word(
         "spill",

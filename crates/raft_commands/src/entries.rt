@@ -5,9 +5,9 @@ use anyhow::{Result, anyhow};
 use raft_c_batch::Entry;
 use raft_command_line::{Indexes, Options};
 use raft_console::{Output, failure, note_made};
+use raft_contents::Engine;
 use raft_env::FileSystem;
 use raft_inspect::Word;
-use raft_log_engine::Engine;
 use raft_records::{Fault, MessageExt};
 use std::alloc::Global;
 

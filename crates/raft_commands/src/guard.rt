@@ -17,7 +17,7 @@ use std::alloc::Global;
 
 /// The text of a refused change.
 const REFUSED: &str = "nothing was done: the plan above says what mends it, `check` prints more, \
-    and `--cut` goes on and loses what the plan says";
+    and `--cut` continues and loses what the plan says";
 
 /// The same for a repair, which is refused for files that it doesn't cut.
 const UNREPAIRED: &str =

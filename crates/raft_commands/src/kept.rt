@@ -31,7 +31,7 @@ fn keep_at(rt: &HostRuntime, place: &str, bytes: &[u8]) -> Result<()> {
 }
 
 fn unkept<E: Display>(place: &str, error: &E) -> anyhow::Error {
-    anyhow!("{error}; `--no-keep` goes on without").context(anyhow!(
+    anyhow!("{error}; `--no-keep` continues without it").context(anyhow!(
         "what is cut off cannot be kept: {place}"
     ))
 }

@@ -3,9 +3,9 @@
 use anyhow::{Error, Result};
 use raft_command_line::{Options, Range};
 use raft_console::{Output, bytes_of, failure, or_failure};
+use raft_contents::Engine;
 use raft_env::FileSystem;
 use raft_inspect::Word;
-use raft_log_engine::Engine;
 use raft_records::Fault;
 
 /// A range of keys in bytes.

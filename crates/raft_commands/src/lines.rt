@@ -6,8 +6,8 @@ use raft_console::{
     GroupValue, LineForm, Pair, Progress, Spelling, check_batch, file_or_input, or_failure,
     read_entry_lines, read_lines, read_values,
 };
+use raft_contents::{Engine, LogBatch};
 use raft_env::FileSystem;
-use raft_log_engine::{Engine, LogBatch};
 use raft_records::Fault;
 use std::alloc::Global;
 

@@ -7,9 +7,9 @@ use crate::taken::{Taken, give_back};
 use anyhow::Result;
 use raft_command_line::Request;
 use raft_console::{Output, Status};
+use raft_contents::Engine;
 use raft_env::FileSystem;
 use raft_inspect::Word;
-use raft_log_engine::Engine;
 use std::thread::Threads;
 
 /// Opens the log in the mode of the options. Prints the bytes that the opening took out of the

@@ -7,9 +7,9 @@ use crate::stored::Total;
 use anyhow::Result;
 use raft_command_line::Options;
 use raft_console::{Output, Status, or_failure};
+use raft_contents::Engine;
 use raft_env::FileSystem;
 use raft_inspect::{Field, FileUsage, Lines, LogUsage, Outlook, QueueFiles, Word, measure};
-use raft_log_engine::Engine;
 use raft_looks::BothQueues;
 use raft_records::Fault;
 use std::alloc::Global;
@@ -60,7 +60,7 @@ pub(crate) fn stat<R: Threads + Sync, F: FileSystem + Drop>(
     let sizes = or_failure(sizes, "the log cannot be measured")?;
     let held = held_in(threads, alloc, files, &sizes.usage, options)?;
     let added = add_all(alloc, &held, &sizes, reserved, options, &mut out.lines);
-    or_failure(added, "the log cannot be told")?;
+    or_failure(added, "the log cannot be counted")?;
     Ok(Status::Done)
 }
 

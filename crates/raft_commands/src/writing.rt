@@ -15,10 +15,9 @@ use crate::waiting::open_folder;
 use anyhow::{Result, anyhow};
 use raft_command_line::{Request, Verb};
 use raft_console::{Output, Progress, Status, bytes_of, check_batch, or_failure};
-use raft_contents::{Material, truncate};
+use raft_contents::{Engine, Material, truncate};
 use raft_disk::DiskFileSystem;
 use raft_env::FileSystem;
-use raft_log_engine::Engine;
 use raft_looks::{Folder, told};
 use std::thread::Threads;
 

@@ -43,10 +43,10 @@ pub fn or_failure<T>(called: Result<T, Fault>, what: &str) -> anyhow::Result<T> 
 fn cause_of(fault: &Fault) -> anyhow::Error {
     match fault {
         Fault::Io(IoKind::NoSpace, path) => anyhow!(
-            "{path}: no space is left: free a block or more; all that was answered stands"
+            "{path}: no space is left: free a block or more; everything that was confirmed is kept"
         ),
         Fault::TryAgain => anyhow!(
-            "no space is left, in two files: free a block or more; all that was answered stands"
+            "no space is left, in two files: free a block or more; everything that was confirmed is kept"
         ),
         Fault::Io(IoKind::NotFound, path) => anyhow!("{path}: the system finds no such file"),
         Fault::Io(IoKind::Other, path) => anyhow!("{path}: the system refused a call on it"),

@@ -147,7 +147,7 @@ fn take_group(line: &[u8], form: LineForm) -> Result<(u64, &[u8])> {
         return Ok((group, line));
     }
     let Some((group, rest)) = at_tab(line) else {
-        return Err(anyhow!("no tab behind a group"));
+        return Err(anyhow!("no tab after a group"));
     };
     match read_number(group) {
         Some(group) => Ok((group, rest)),

@@ -176,7 +176,7 @@ impl LineImport {
 
 fn note_unread(rt: &HostRuntime, request: &Request<'_>, why: &str) -> Result<()> {
     let text = format!(in rt.alloc();
-        "the dump ends before the end of a file: {why}; `salvage` reads on behind it"
+        "the dump ends before the end of a file: {why}; `salvage` reads on after it"
     );
     note_made(rt, &request.options, text)
 }

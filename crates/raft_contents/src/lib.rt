@@ -16,6 +16,7 @@ mod truncating;
 
 pub use import::{LineImport, filter_of};
 pub use material::Material;
+pub use raft_log_engine::{Engine, LogBatch, Refused};
 pub use summing::sum;
 pub use tables::TableImport;
 pub use truncating::truncate;
