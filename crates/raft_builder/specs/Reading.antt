@@ -25,7 +25,7 @@ pub record AreLogsRead {M : Type 0}
   pub stands : (blocks : Blocks) → AreInQueue queue logs → HaveLogBlocks n logs blocks
       → stands_for queue blocks [] machine (logged_batches n logs)
 
--- .. of the files of a queue
+-- AreLogsRead, of the files of a queue
 pub record IsQueueRead {M : Type 0}
     (stands_for : LogQueue → Blocks → List FileBatch → M → List FileBatch → Type 0)
     (mode : RecoveryMode) (queue : LogQueue) (n : Directory) (files : List (ℕ × Path))

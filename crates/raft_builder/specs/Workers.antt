@@ -6,6 +6,7 @@ use Rattle.raft_builder.specs.declared.chunks.Workers.{Workers}
 abbrev pub shared : ℕ → ℕ → ℕ → ℕ
 shared all append rewrite = max 1 (all * append / (append + rewrite))
 
+-- how many workers each queue gets; all, if the other has no files
 abbrev pub share_out : ℕ → ℕ → ℕ → Workers
 share_out all append rewrite =
     if append == 0 || rewrite == 0 then record { append = all; rewrite = all }

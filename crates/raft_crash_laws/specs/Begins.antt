@@ -25,8 +25,7 @@ pub record BeginsWithContents (folders : Folders) (m : Contents) (since : List B
   pub stand : recovered rewritten appended ≡ m
   pub with_since : recovered rewritten (appended ++ since) ≡ after_batches m since
 
--- .. of the batches since the last sync that was answered the first ones may be synced already, and
--- stand with those before them
+-- BeginsWithContents, where the first batches since the last successful sync may be synced already
 abbrev pub LogStandsFor : Folders → Contents → List Batch → Directory → Type 0
 LogStandsFor folders m since n = ∥ ((count : ℕ) × (count ≤ length since)
     × BeginsWithContents folders (after_batches m (take count since)) (drop count since) n) ∥₁

@@ -1,4 +1,10 @@
 pub mod CheckLemmas
+pub mod FrontLemmas
+pub mod GivenLemmas
+pub mod HeaderLemmas
+pub mod ImageLemmas
 pub mod ItemLemmas
 pub mod ItemStepLemmas
+pub mod JoinLemmas
+pub mod PartLemmas
 pub mod StaleLemmas

@@ -1,7 +1,9 @@
 pub mod Build
 pub mod Check
 pub mod Dump
+pub mod Given
 pub mod Items
 pub mod LogFiles
+pub mod Parts
 pub mod Reads
 pub mod Stale

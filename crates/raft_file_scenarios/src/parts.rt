@@ -2,9 +2,8 @@
 
 use crate::told::assert_rows;
 use raft_base::History;
-use raft_dump::{LogFile, LogItemReader};
+use raft_dump::{FilePart, LogFile, LogFileParts, LogItemReader, PartSource, check_parts};
 use raft_env::FileSystem;
-use raft_parts::{FilePart, LogFileParts, PartSource, check_parts};
 use raft_records::{Fault, FileId, LogQueue};
 use raft_rows::{HEADER, PUT, Row, ZEROS};
 use std::alloc::{AllocError, Global};

@@ -14,7 +14,7 @@ abbrev pub IsRenamedWithin : File → Type 0
 IsRenamedWithin file = (count : ℕ) → file.renamed_after ≡ Some count
     → count ≤ length (file.changes ++ file.older)
 
--- .. and so the file at a path
+-- IsRenamedWithin, of the file at a path
 abbrev pub IsRenamedWithinAt : Path → Directory → Type 0
 IsRenamedWithinAt path n = (file : File) → file_at n path ≡ Some file → IsRenamedWithin file
 
@@ -27,7 +27,7 @@ pub record AreCompletedRecords (id : FileId) (format : LogFileFormat)
       records
   pub renamed : IsRenamedWithin file
 
--- .. of the file at a path
+-- AreCompletedRecords, of the file at a path
 abbrev pub AreCompletedRecordsAt : Path → FileId → LogFileFormat → List PlacedRecord
     → Directory → Type 0
 AreCompletedRecordsAt path id format records n = (file : File) → file_at n path ≡ Some file
@@ -37,7 +37,7 @@ AreCompletedRecordsAt path id format records n = (file : File) → file_at n pat
 pub record HasSimplePast (file : File) : Type 0 where
   pub only_writes : OnlyWritesFailed (file.changes ++ file.older)
 
--- .. and so the file at a path
+-- HasSimplePast, of the file at a path
 abbrev pub HasSimplePastAt : Path → Directory → Type 0
 HasSimplePastAt path n = (file : File) → file_at n path ≡ Some file → HasSimplePast file
 
@@ -45,7 +45,7 @@ HasSimplePastAt path n = (file : File) → file_at n path ≡ Some file → HasS
 pub record EndsInZeros (at : ℕ) (bytes : List ℕ) : Type 0 where
   pub zeros : (i : ℕ) → at ≤ i → i < length bytes → slice_index bytes i ≡ 0
 
--- .. or what the file held when it was renamed
+-- from this place on there are zeros, or what the file held when it was renamed
 abbrev pub EndsUnwritten : ℕ → List ℕ → Option ℕ → List Change → Type 0
 EndsUnwritten at bytes renamed_after changes = EndsInZeros at bytes
     ⊎ ((i : ℕ) → at ≤ i → IsUntriedAfter renamed_after changes i)
@@ -75,7 +75,7 @@ pub record HasCompletedRecords (path : Path) (id : FileId) (format : LogFileForm
   pub holds : map (λ p. p.batch) records ≡ batches
   pub held : HoldsCompletedRecords id format records synced at file
 
--- .. as its writer left it, with a simple past
+-- HasCompletedRecords as its writer left it, with a simple past
 pub record HasCompletedLog (path : Path) (id : FileId) (format : LogFileFormat)
     (batches : List Batch)
     (synced at : ℕ) (n : Directory) : Type 0 where
@@ -89,7 +89,7 @@ pub record ReadsCompletedRecords (id : FileId) (file : File) : Type 0 where
       → AreCompletedRecords id r.format r.records file
   pub renamed : IsRenamedWithin file
 
--- .. of the file at a path
+-- ReadsCompletedRecords, of the file at a path
 abbrev pub ReadsCompletedRecordsAt : Path → FileId → Directory → Type 0
 ReadsCompletedRecordsAt path id n = (file : File) → file_at n path ≡ Some file
     → ReadsCompletedRecords id file

@@ -25,6 +25,7 @@ next_replayed id format bytes at =
 abbrev pub replayed_after : FileId → LogFileFormat → List ℕ → ℕ → List PlacedRecord
 replayed_after id format bytes at = placed_by (length bytes) (next_replayed id format bytes) at
 
+-- the records that a replay takes after this header; none without a header
 abbrev pub replayed_in : FileId → List ℕ → Option (LogFileFormat × List ℕ) → List PlacedRecord
 replayed_in id bytes None = []
 replayed_in id bytes (Some header) = replayed_after id header.0 bytes (header_len header.0.version)

@@ -4,11 +4,10 @@ use crate::folder::Folder;
 use crate::source::FileSource;
 use anyhow::{Result, bail};
 use raft_console::{Output, Progress, Status, failure, or_failure};
-use raft_dump::{LogFile, LogItemReader, RecordPlace, build_file_reader};
+use raft_dump::{LogFile, LogFileParts, LogItemReader, RecordPlace, build_file_reader};
 use raft_env::FileSystem;
 use raft_files::LogFileReader;
 use raft_inspect::{Filter, add_fault, add_item};
-use raft_parts::LogFileParts;
 use raft_records::{Fault, LogQueue};
 use std::alloc::Global;
 

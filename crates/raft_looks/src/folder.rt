@@ -8,12 +8,11 @@ use raft_command_line::Options;
 use raft_config::RecoveryMode;
 use raft_console::Progress;
 use raft_disk::{FolderView, SpanNote, image_of};
-use raft_dump::{FileCheck, LogFile, check_file, log_file};
+use raft_dump::{FileCheck, LogFile, check_file, check_parts, log_file};
 use raft_env::FileSystem;
 use raft_files::FileNameExt;
 use raft_inspect::{Cut, QueueFiles, cuts_of};
 use raft_memory::MemoryFileSystem;
-use raft_parts::check_parts;
 use raft_records::{Fault, LogQueue};
 use std::alloc::{AllocError, Global};
 

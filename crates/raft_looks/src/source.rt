@@ -6,8 +6,8 @@ use anyhow::{Error, Result, anyhow};
 use raft_base::History;
 use raft_console::Progress;
 use raft_disk::{FolderView, OpenFault};
+use raft_dump::{FilePart, PartSource};
 use raft_env::{FsFault, IoKind};
-use raft_parts::{FilePart, PartSource};
 use raft_records::Fault;
 use std::io::ErrorKind;
 

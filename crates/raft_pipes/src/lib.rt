@@ -9,5 +9,5 @@ mod spare;
 pub mod spare_laws;
 
 pub use log_folders::{LogFolders, make_folder};
-pub use pipe::{AppendFault, NewPipe, RotationFault, SinglePipe};
+pub use pipe::{AppendFault, END_OF_NUMBERS, NewPipe, RotationFault, SinglePipe};
 pub use spare::{SealedFile, SpareFile};

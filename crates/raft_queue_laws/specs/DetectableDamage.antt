@@ -26,18 +26,18 @@ ShowsNoStale id renamed_after changes bytes = (format : LogFileFormat) (i : ℕ)
     → format_of bytes ≡ Some format → IsUntriedAfter renamed_after changes i
     → IsBrokenFrom id format i bytes
 
--- .. neither in the file's bytes now nor in those of its last sync
+-- ShowsNoStale, of the file's bytes now and of those at its last sync
 pub record HasNoStaleRecord (id : FileId) (file : File) : Type 0 where
   pub now : ShowsNoStale id file.renamed_after (file.changes ++ file.older) file.now
   pub synced : ShowsNoStale id file.renamed_after file.older file.synced
 
--- .. nor so the last of a queue's log files in the folders
+-- HasNoStaleRecord, of the last of a queue's log files in the folders
 abbrev pub HasNoStaleRecordOf : LogQueue → Folders → Directory → Type 0
 HasNoStaleRecordOf queue folders n = (f : ℕ × Path) (file : File)
     → last_kept (all_of folders) queue n ≡ Some f → file_at n f.1 ≡ Some file
     → HasNoStaleRecord (in_queue queue f.0) file
 
--- .. of both queues
+-- HasNoStaleRecordOf both queues
 abbrev pub HaveNoStaleRecordIn : Folders → Directory → Type 0
 HaveNoStaleRecordIn folders n = (queue : LogQueue) → HasNoStaleRecordOf queue folders n
 
@@ -52,12 +52,12 @@ pub record IsTornAfter (id : FileId) (format : LogFileFormat) (records : List Pl
   pub same : take end left ≡ take end file.now
   pub broken : IsBrokenFrom id format end left
 
--- .. of those that can be read of it now
+-- IsTornAfter the records that can be read of the file now
 abbrev pub IsTornAsRead : FileId → File → List ℕ → Type 0
 IsTornAsRead id file left = (r : ScanResult) → scan_file id file.now ≡ Some r
     → IsTornAfter id r.format r.records file left
 
--- .. of the last of a queue's log files in the folders
+-- IsTornAsRead, of the last of a queue's log files in the folders
 abbrev pub IsTornAsReadOf : LogQueue → Folders → Directory → CrashImage → Type 0
 IsTornAsReadOf queue folders n d = (f : ℕ × Path) (file : File)
     → last_kept (all_of folders) queue n ≡ Some f → file_at n f.1 ≡ Some file
@@ -68,7 +68,7 @@ abbrev pub AddsOnlyItsRecord : FileId → Option ℕ → Change → Type 0
 AddsOnlyItsRecord id signature c = (r : PlacedRecord) → Contains (readable_records id c.after) r
     → Contains (readable_records id c.before) r ⊎ IsGivenBy signature r c
 
--- .. and so each change of the file, judged by a format that its header had since the last sync
+-- AddsOnlyItsRecord, of each change of the file, by a format of its header since the last sync
 abbrev pub EachAddsOnlyItsRecord : FileId → File → Type 0
 EachAddsOnlyItsRecord id file = (format : LogFileFormat) (bytes : List ℕ)
     → Contains (bytes_since_sync file) bytes → format_of bytes ≡ Some format → (c : Change)

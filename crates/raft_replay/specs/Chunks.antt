@@ -7,6 +7,7 @@ use Rattle.raft_recovery_laws.specs.Recovered.{items_of}
 pub use Rattle.raft_replay.specs.declared.chunk_reach.Reach.{Reach}
 pub use Rattle.raft_replay.specs.declared.chunk_reach.Starts.{Starts}
 
+-- the effect of no items
 abbrev pub no_reach : Reach
 no_reach = record { cleaned = false; compacted = 0; starts = None }
 
@@ -21,6 +22,7 @@ starts_then (Some o) (Some n) = Some (record {
   has_hole = o.has_hole || (n.has_hole || nat_lt o.end n.first);
 })
 
+-- the effect of older items and then of newer ones
 abbrev pub reach_then : Reach → Reach → Reach
 reach_then older newer = if newer.cleaned then newer else record {
   cleaned = older.cleaned;
@@ -28,6 +30,7 @@ reach_then older newer = if newer.cleaned then newer else record {
   starts = starts_then older.starts newer.starts;
 }
 
+-- the effect of one item
 abbrev pub reach_by : Content → Reach
 reach_by (Entries []) = no_reach
 reach_by (Entries (e ∷ es)) = record {
@@ -45,6 +48,7 @@ reach_by (Compact index) = record { cleaned = false; compacted = index; starts =
 reach_by (Put key value) = no_reach
 reach_by (Delete key) = no_reach
 
+-- the effect of the items before, and then of this one if it is of the group
 abbrev pub reach_after : ℕ → Reach → Item → Reach
 reach_after group r item = if group == item.group then reach_then r (reach_by item.content) else r
 
@@ -52,6 +56,7 @@ reach_after group r item = if group == item.group then reach_then r (reach_by it
 abbrev pub reach_in : ℕ → List Batch → Reach
 reach_in group batches = fold (reach_after group) no_reach (items_of batches)
 
+-- newer entries that start so leave an older entry with this index
 abbrev pub starts_leave : Option Starts → ℕ → Bool
 starts_leave None index = true
 starts_leave (Some s) index = nat_lt index s.least
@@ -81,6 +86,7 @@ deleted_by key d (Compact index) = d
 deleted_by key d (Put changed value) = d
 deleted_by key d (Delete changed) = d || bytes_eq key changed
 
+-- whether a key was deleted since the last clean, after one more item
 abbrev pub deleted_after : ℕ → List ℕ → Bool → Item → Bool
 deleted_after group key d item =
     if group == item.group then deleted_by key d item.content else d

@@ -37,7 +37,7 @@ impl Seat {
         &self.receipts
     }
 
-    pub(crate) fn make_room(&mut self) -> Result<(), Fault>
+    pub(crate) fn reserve_receipt(&mut self) -> Result<(), Fault>
         ensures ok { OnOk result (vec_len self.new.receipts < vec_capacity self.new.receipts) }
         ensures unchanged { (self.new.number ≡ self.old.number)
             × (self.new.receipts.items ≡ self.old.receipts.items) }
