@@ -58,13 +58,15 @@ impl HeldKeys {
         } else {
             Fate::Replaced
         };
-        self.fates.insert(key.to_vec(alloc)?, fate)?;
+        let key = key.to_vec(alloc)?;
+        self.fates.insert(key, fate)?;
         Ok(())
     }
 
     /// Deletes a key that the log has.
     pub fn delete(&mut self, alloc: Global, key: &[u8]) -> Result<(), Fault> {
-        self.fates.insert(key.to_vec(alloc)?, Fate::Removed)?;
+        let key = key.to_vec(alloc)?;
+        self.fates.insert(key, Fate::Removed)?;
         Ok(())
     }
 

@@ -42,8 +42,8 @@ impl Replacing {
         group: u64,
     ) -> Result<&mut Held, AllocError> {
         if !self.groups.contains_key(&group) {
-            self.groups
-                .insert(group, Held::of(self.alloc, engine, group))?;
+            let held = Held::of(self.alloc, engine, group);
+            self.groups.insert(group, held)?;
         }
         match self.groups.get_mut(&group) {
             Some(held) => Ok(held),
