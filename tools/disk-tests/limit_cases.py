@@ -35,6 +35,9 @@ class Limits:
                 self.limited(kilobytes, folder, *words.split(), to=f'2> "{out}"')
                 ran = self.limited(kilobytes, folder, *words.split(), to=f'> "{out}" 2>&1')
                 self.expect(f"{words}, {kilobytes} KB, both: {ran}", 0 <= ran.returncode < 128)
+        for words in (["--help"], ["help", "put"], ["--completion"], ["--version"]):
+            ran = self.limited(0, *words, to=f'> "{out}"')
+            self.expect(f"{words}: {ran}", ran.returncode == 1 and os.path.getsize(out) == 0)
         ran = self.limited(0, folder, "get", 1, "none", to=f'2> "{out}"')
         self.expect(f"an error that has no room: {ran}", ran.returncode in (1, 3) and os.path.getsize(out) == 0)
         self.expect("looks change nothing", state_of(folder) == before)

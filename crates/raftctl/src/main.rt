@@ -89,15 +89,15 @@ fn failed(rt: &HostRuntime, json: bool, error: &anyhow::Error) -> ExitCode {
 fn misused(rt: &HostRuntime, json: bool, error: &Error) -> ExitCode {
     match print_misuse(rt, json, error) {
         Ok(()) => ExitCode::from(error.exit_code() as u8),
-        Err(_) => ExitCode::FAILURE,
+        Err(unprinted) => failed(rt, json, &unprinted),
     }
 }
 
 fn print_misuse(rt: &HostRuntime, json: bool, error: &Error) -> Result<()> {
-    if !error.use_stderr() {
-        return Ok(error.print(rt)?);
-    }
     let text = format!(in rt.alloc(); "{error}")?;
+    if !error.use_stderr() {
+        return print_bytes(rt, text.as_bytes());
+    }
     if json {
         return tell(rt, json, "error", text.trim_end());
     }
