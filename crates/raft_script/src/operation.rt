@@ -5,7 +5,7 @@ use raft_log_engine::Image;
 use raft_records::{Fault, FileSeq};
 
 /// A change of one group.
-#[derive(Debug, PartialEq, Eq, Drop)]
+#[derive(Debug, Drop)]
 pub enum Act {
     Put(u64, Vec<u8>, Vec<u8>),
     Delete(u64, Vec<u8>),
@@ -18,7 +18,7 @@ pub enum Act {
 }
 
 /// A call of an engine.
-#[derive(Debug, PartialEq, Eq, Drop)]
+#[derive(Debug, Drop)]
 pub enum Op {
     /// Writes the acts as one batch. The flag requests a sync.
     Write(Vec<Act>, bool),
@@ -71,7 +71,7 @@ pub enum Outcome {
 }
 
 /// The results of a trial.
-#[derive(Debug, PartialEq, Eq, Drop)]
+#[derive(Debug, Drop)]
 pub struct Trial {
     /// Empty if the first opening failed.
     pub outcomes: Vec<Outcome>,
