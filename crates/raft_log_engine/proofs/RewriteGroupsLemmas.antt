@@ -8,6 +8,7 @@ use Rattle.raft_env.specs.Directory.{Directory}
 use Rattle.raft_index_laws.specs.DroppingOld.{AreRewrittenFrom}
 use Rattle.raft_pipes.specs.PipeState.{PipeState}
 use Rattle.raft_queues.specs.Dual.{DualState}
+use Rattle.raft_tables.specs.GroupsFrom.{comes_before}
 use Rattle.raft_tables.specs.Tables.{Tables, or_empty, tables_of}
 use Rattle.raft_tables.specs.declared.memtables.MemTables.{MemTables}
 use Rattle.raft_tables.specs.declared.rewritten.GroupsMet.{GroupsMet}
@@ -19,7 +20,7 @@ use Rattle.raft_purge.specs.UnderWay.{IsUnderWay}
 use Rattle.raft_purge.specs.declared.renewal_groups.NewFiles.{NewFiles}
 use Rattle.raft_purge.specs.declared.renewal_groups.RenewalPart.{RenewalPart}
 use Rattle.raft_purge.proofs.RenewalPartLemmas.{none_of}
-use Rattle.raft_purge_rules.specs.NextGroups.{AreNextGroups, comes_before}
+use Rattle.raft_purge_rules.specs.NextGroups.{AreNextGroups}
 use Rattle.raft_purge_rules.specs.declared.within_budget.NextGroups.{NextGroups}
 use Rattle.raft_log_engine.specs.Purge.{GoesOnFrom, GoesOnIf, HasRenewedGroups}
 use Rattle.raft_log_engine.specs.RewriteGroups.{HasRenewedFrom, first_left}

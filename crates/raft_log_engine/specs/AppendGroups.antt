@@ -7,11 +7,12 @@ use Rattle.raft_base.specs.declared.errors.Fault.{Fault}
 use Rattle.raft_env.specs.declared.env.FileSystem.{Ghosts}
 use Rattle.raft_pipes.specs.PipeState.{last_seq}
 use Rattle.raft_purge.specs.Scope.{HasRotatedAt}
-use Rattle.raft_purge_rules.specs.NextGroups.{AreNextGroups, FitBudget, comes_before}
+use Rattle.raft_purge_rules.specs.NextGroups.{AreNextGroups, FitBudget}
 use Rattle.raft_purge_rules.specs.declared.within_budget.NextGroups.{NextGroups}
 use Rattle.raft_purge_steps.specs.Emptied.{HasNoneToMove}
 use Rattle.raft_rewrite.specs.Emptied.{MovesOnly}
 use Rattle.raft_stale.specs.Scope.{HasLostFront}
+use Rattle.raft_tables.specs.GroupsFrom.{comes_before}
 use Rattle.raft_tables.specs.Tables.{Tables, or_empty, tables_of}
 use Rattle.raft_log_engine.specs.Engine.{queue_of, rewrite_queue_of}
 use Rattle.raft_log_engine.specs.Purge.{LeavesNewFiles}

@@ -8,11 +8,12 @@ use Rattle.raft_env.specs.declared.env.FileSystem.{Ghosts}
 use Rattle.raft_pipes.specs.PipeState.{PipeState}
 use Rattle.raft_purge.specs.RenewalPart.{files_new as files_new_of, first_kept, first_new as first_new_of}
 use Rattle.raft_purge.specs.declared.renewal_groups.NewFiles.{NewFiles}
-use Rattle.raft_purge_rules.specs.NextGroups.{AreNextGroups, FitBudget, comes_before}
+use Rattle.raft_purge_rules.specs.NextGroups.{AreNextGroups, FitBudget}
 use Rattle.raft_purge_rules.specs.declared.within_budget.NextGroups.{NextGroups}
 use Rattle.raft_rewrite.specs.Emptied.{MovesOnly}
 use Rattle.raft_rewrite.specs.EmptiedAnew.{IsAllFrom}
 use Rattle.raft_stale.specs.Dropping.{HasDroppedSome}
+use Rattle.raft_tables.specs.GroupsFrom.{comes_before}
 use Rattle.raft_tables.specs.Counters.{deleted_count}
 use Rattle.raft_tables.specs.Tables.{Tables, or_empty, tables_of}
 use Rattle.raft_tables.specs.declared.memtables.MemTables.{MemTables}

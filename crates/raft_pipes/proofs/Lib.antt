@@ -1,4 +1,5 @@
 pub mod ApartLemmas
+pub mod AppendLemmas
 pub mod BeginLemmas
 pub mod BlocksLemmas
 pub mod ByFileCallsLemmas

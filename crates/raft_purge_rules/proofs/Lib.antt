@@ -1,3 +1,4 @@
 pub mod ChoosingLemmas
 pub mod NextGroupsLemmas
 pub mod RoundsLemmas
+pub mod IdleLemmas

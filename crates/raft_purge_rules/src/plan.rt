@@ -1,5 +1,5 @@
 //! What a purge by watermarks is to do.
-ghost use Rattle.std.specs.Prelude.{◌≡◌, IfOk};
+ghost use Rattle.std.specs.Prelude.{◌≡◌, IfOk, None, false};
 ghost use Rattle.std.specs.List.Sorted.{IsStrictlySortedBy};
 ghost use Rattle.std.specs.Ordering.{nat_cmp};
 ghost use Rattle.raft_tables.specs.Tables.{tables_of};
@@ -21,8 +21,8 @@ pub struct PurgePlan {
     pub rounds: Option<Rounds>,
 }
 
-/// The plan of a purge that rewrites these queues, with these counts of requests. It fails only for
-/// lack of memory.
+/// The plan of a purge that rewrites these queues, with these counts of requests. It looks at no
+/// group if neither queue is rewritten. It fails only for lack of memory.
 pub fn plan_purge(
     alloc: Global,
     tables: &MemTables,
@@ -33,6 +33,9 @@ pub fn plan_purge(
     ensures ascending { IfOk result (λ plan. IsStrictlySortedBy nat_cmp plan.asked.items
         × IsStrictlySortedBy nat_cmp plan.rewritten.items) }
 {
+    if !needs.rewrite && needs.append.is_none() {
+        return Ok(idle_plan(alloc));
+    }
     let decisions = decide_all(alloc, tables, needs, rounds)?;
     let asked = groups_by(alloc, &decisions, Chosen::Asked)?;
     let rewritten = groups_by(alloc, &decisions, Chosen::Rewritten)?;
@@ -42,6 +45,20 @@ pub fn plan_purge(
         rewritten,
         rounds,
     })
+}
+
+/// The plan if neither queue is rewritten: nothing is done about any group.
+fn idle_plan(alloc: Global) -> PurgePlan
+    ensures value { (needs : Needs) (rounds : Rounds) (m : MemTables) → needs.rewrite ≡ false
+        → needs.append ≡ None → IsPlan needs rounds (tables_of m) result }
+    ensures ascending { IsStrictlySortedBy nat_cmp result.asked.items
+        × IsStrictlySortedBy nat_cmp result.rewritten.items }
+{
+    PurgePlan {
+        asked: Vec::new(alloc),
+        rewritten: Vec::new(alloc),
+        rounds: None,
+    }
 }
 
 /// The counts after a purge; none if they stay.

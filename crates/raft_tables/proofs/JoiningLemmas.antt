@@ -38,6 +38,14 @@ option_or-none (Some v) = refl
 pub table_alone : (t : TableView) (o : Option TableView) → None ≡ o → IsTableJoined (Some t) o t
 table_alone t o none = subst (λ p. IsTableJoined (Some t) p t) none (record { entries = refl; keys = λ k. refl })
 
+-- no tables put below leave what is there
+pub joined_none : (t : Tables) → IsJoined (λ _. None) t t
+joined_none t = record {
+  entries = λ g. sym (with_entries-nothing (or_empty (t g)).entries);
+  keys = λ g k. sym (option_or-none ((or_empty (t g)).keys k));
+  known = λ g. refl;
+}
+
 -- after one group's table was put below, the others give the same as all did
 pub join_step : (l a j : Tables) (group : ℕ) (t v : TableView) → l group ≡ Some t → IsTableJoined (Some t) (a group) v → IsJoined (with_table group None l) (with_table group (Some v) a) j → IsJoined l a j
 join_step l a j group t v first table joined = record {
@@ -94,27 +102,27 @@ abbrev pub total_in : List (ℕ × MemTable) → ℕ
 total_in es = sum_by (λ t. rewritten_in (table_of t)) (values_of es)
 
 pub total-set : (m : MemTables) (n : Groups) (group : ℕ) (old new : MemTable) → Some old ≡ hash.get nat_eq m.tables group → n.entries ≡ set_value (nat_eq group) m.tables.entries new
-    → rewritten_total (record { alloc = m.alloc; tables = n }) + rewritten_in (table_of old) ≡ rewritten_total m + rewritten_in (table_of new)
+    → total_in n.entries + rewritten_in (table_of old) ≡ rewritten_total m + rewritten_in (table_of new)
 total-set m n group old new there is =
     ap (λ es. total_in es + rewritten_in (table_of old)) is
     ∙ sum_by-set_value (λ t. rewritten_in (table_of t)) (nat_eq group) m.tables.entries old new (sym there)
 
 pub total-insert : (m : MemTables) (n : Groups) (group : ℕ) (new : MemTable) (old : Option MemTable) → None ≡ hash.get nat_eq m.tables group → old ≡ hash.get nat_eq m.tables group → hash.PutsEntry nat_eq m.tables n group new old
-    → rewritten_total (record { alloc = m.alloc; tables = n }) ≡ rewritten_total m + rewritten_in (table_of new)
+    → total_in n.entries ≡ rewritten_total m + rewritten_in (table_of new)
 total-insert m n group new old none is puts =
     let sum = sum_by_puts_entry (λ (t : MemTable). rewritten_in (table_of t)) nat_eq m.tables n group new old is puts in
     let nothing = ap (λ o. unwrap_or (option_map (λ (t : MemTable). rewritten_in (table_of t)) o) 0) (is ∙ sym none) in
     omega (arith, sum, nothing)
 
 pub total-put : (m : MemTables) (n : Groups) (group : ℕ) (new : MemTable) (old : Option MemTable) → old ≡ hash.get nat_eq m.tables group → hash.PutsEntry nat_eq m.tables n group new old
-    → unwrap_or (option_map (λ (t : MemTable). rewritten_in (table_of t)) old) 0 + rewritten_total (record { alloc = m.alloc; tables = n }) ≡ rewritten_in (table_of new) + rewritten_total m
+    → unwrap_or (option_map (λ (t : MemTable). rewritten_in (table_of t)) old) 0 + total_in n.entries ≡ rewritten_in (table_of new) + rewritten_total m
 total-put m n group new old is puts =
     let sum = sum_by_puts_entry (λ (t : MemTable). rewritten_in (table_of t)) nat_eq m.tables n group new old is puts in
     let was = ap (λ o. unwrap_or (option_map (λ (t : MemTable). rewritten_in (table_of t)) o) 0) is in
     omega (arith, sum, was)
 
 pub total-removed : (m : MemTables) (n : Groups) (group : ℕ) (old : Option MemTable) → old ≡ hash.get nat_eq m.tables group → IsPermutation (remove_entry (nat_eq group) m.tables.entries) n.entries
-    → rewritten_in (or_empty (option_map table_of old)) + rewritten_total (record { alloc = m.alloc; tables = n }) ≡ rewritten_total m
+    → rewritten_in (or_empty (option_map table_of old)) + total_in n.entries ≡ rewritten_total m
 total-removed m n group old is moved =
     let f = λ (t : MemTable). rewritten_in (table_of t) in
     let sum = sum_by-remove_entry f (nat_eq group) m.tables.entries in

@@ -16,6 +16,7 @@ pub mod StatsLemmas
 pub mod LeavingLemmas
 pub mod RecoveringLemmas
 pub mod JoiningLemmas
+pub mod RoomLemmas
 pub mod RewrittenLemmas
 pub mod OwedLemmas
 pub mod FirstFileLemmas
@@ -27,3 +28,4 @@ pub mod WrittenLemmas
 pub mod GroupIdsLemmas
 pub mod AscendingLemmas
 pub mod PairLemmas
+pub mod GroupsFromLemmas

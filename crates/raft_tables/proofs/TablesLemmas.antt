@@ -16,6 +16,10 @@ use Rattle.raft_tables.specs.declared.memtables.MemTables.{MemTables}
 abbrev pub Groups : Type 0
 Groups = HashMap ℕ MemTable (BuildHasherDefault FoldHasher)
 
+-- the tables of a map of groups
+abbrev pub shown : Groups → Tables
+shown m group = option_map table_of (hash.get nat_eq m group)
+
 eq-flip : (a b : ℕ) → (a == b) ≡ (b == a)
 eq-flip a b = nat_eq_equiv.symm a b
 
@@ -27,9 +31,9 @@ option_map-cond f true x y = refl
 option_map-cond f false x y = refl
 
 -- one group's table was changed
-pub table_changed : (m : MemTables) (n : Groups) (group : ℕ) (w : Option MemTable) → hash.UpdatesBy nat_eq (nat_eq group) m.tables n w → tables_of (record { alloc = m.alloc; tables = n }) ≡ with_table group (option_map table_of w) (tables_of m)
+pub table_changed : (m : MemTables) (n : Groups) (group : ℕ) (w : Option MemTable) → hash.UpdatesBy nat_eq (nat_eq group) m.tables n w → shown n ≡ with_table group (option_map table_of w) (tables_of m)
 table_changed m n group w updates =
-    let at : (g : ℕ) → tables_of (record { alloc = m.alloc; tables = n }) g ≡ with_table group (option_map table_of w) (tables_of m) g = λ g.
+    let at : (g : ℕ) → shown n g ≡ with_table group (option_map table_of w) (tables_of m) g = λ g.
     ap (option_map table_of) (updates.0 g ∙ ap (λ b. cond b w (hash.get nat_eq m.tables g)) (eq-flip group g)) ∙ option_map-cond table_of (g == group) w (hash.get nat_eq m.tables g) in
     λ i g. at g i
 
@@ -43,7 +47,7 @@ same_table t group v is = λ i g. at g (g == group) refl i
 
 -- the first table of a group
 pub first_of_group : (m : MemTables) (n : Groups) (group : ℕ) (after : MemTable) (f : Option TableView → Option TableView) → None ≡ hash.get nat_eq m.tables group → hash.UpdatesBy nat_eq (nat_eq group) m.tables n (Some after)
-    → Some (table_of after) ≡ f None → tables_of (record { alloc = m.alloc; tables = n }) ≡ with_table group (f (tables_of m group)) (tables_of m)
+    → Some (table_of after) ≡ f None → shown n ≡ with_table group (f (tables_of m group)) (tables_of m)
 first_of_group m n group after f none updates is =
     table_changed m n group (Some after) updates ∙ ap (λ v. with_table group v (tables_of m)) (is ∙ ap (λ o. f (option_map table_of o)) none)
 

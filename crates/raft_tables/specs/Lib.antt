@@ -2,6 +2,7 @@ pub mod PackedPlace
 pub mod EntryTable
 pub mod KeyHash
 pub mod Table
+pub mod Room
 pub mod Known
 pub mod Tables
 pub mod Counters
@@ -26,3 +27,4 @@ pub mod Deleting
 pub mod Replayed
 pub mod Pairs
 pub mod FileCounts
+pub mod GroupsFrom

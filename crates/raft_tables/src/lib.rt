@@ -6,6 +6,7 @@ mod dropping;
 pub mod entries;
 mod file_counts;
 pub mod group_ids;
+mod groups_from;
 mod growing;
 mod joining;
 pub mod key_hash;
@@ -25,6 +26,7 @@ mod validity;
 
 pub use entries::EntryTable;
 pub use group_ids::GroupIds;
+pub use groups_from::FirstGroups;
 pub use joining::{InOrder, Joining, SideBySide};
 pub use memtable::{KeyAndValue, MemTable};
 pub use memtables::MemTables;

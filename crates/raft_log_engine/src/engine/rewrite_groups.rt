@@ -18,15 +18,15 @@ impl<F: FileSystem> Engine<F> {
     ghost use Rattle.raft_log_engine.specs.RewriteGroups.{RenewsGroups};
 
     /// Syncs everything that was written, and writes what groups have in the Rewrite queue's files
-    /// to new files of it. It takes the known groups from one on, as many as have `budget` bytes of
-    /// entries and values there together, but at least one. Returns the group with which the next
-    /// call begins, and none after the last one. The first call, with group 0, switches to the next
-    /// file, unless earlier calls stopped halfway: then it uses their new files. After the last
-    /// group the files before the new ones are dropped, all together, if none has contents and the
-    /// batches of each atomic group are together. Writes and reads may come between these calls. An
-    /// opening or another purge ends the series, and an `Err` may: then begin again with group 0,
-    /// which switches to the next file once more. It changes no contents, and is refused, as
-    /// `must_rewrite_rewrite_queue`.
+    /// to new files of it. It takes the known groups from one on: as many as cost together at most
+    /// `budget` bytes, but at least one. A group costs 64 bytes for the look at it, and its entries
+    /// and values there. Returns the group with which the next call begins, and none after the last
+    /// one. The first call, with group 0, switches to the next file, unless earlier calls stopped
+    /// halfway: then it uses their new files. After the last group the files before the new ones
+    /// are dropped, all together, if none has contents and the batches of each atomic group are
+    /// together. Writes and reads may come between these calls. An opening or another purge ends
+    /// the series, and an `Err` may: then begin again with group 0, which switches to the next file
+    /// once more. It changes no contents, and is refused, as `must_rewrite_rewrite_queue`.
     pub fn must_rewrite_rewrite_groups(
         &mut self,
         from: u64,
