@@ -13,7 +13,7 @@
 #include <sys/types.h>
 #include <unistd.h>
 
-atomic_int faults_left, faults_orders_left, faults_syncs;
+atomic_int faults_left, faults_orders_left, faults_notes, faults_syncs;
 int faults_error = EIO;
 bool faults_kill, faults_of_note;
 
@@ -88,8 +88,22 @@ static int fails_of(bool of_note) {
 /* The system doesn't interrupt a call on a name. */
 static int fails_name(bool of_note) { return faults_error != EINTR && fails_of(of_note); }
 
+/* After a refused call on the note the next sync of the folder is a log file's. */
+static bool refuses_note(void) {
+    int left = atomic_load(&faults_notes);
+    while (left && !atomic_compare_exchange_weak(&faults_notes, &left, left - 1)) {}
+    if (!left) return false;
+    was_note = false;
+    errno = faults_error;
+    return true;
+}
+
 /* A sync of the folder right after a call on the note is the note's. */
-static int fails(int fd) { return fails_of(is_note(fd) || (was_note && is_folder(fd))); }
+static int fails(int fd) {
+    bool of_file = is_note(fd);
+    if (fails_of(of_file || (was_note && is_folder(fd)))) return 1;
+    return of_file && refuses_note();
+}
 
 void faults_hold_syncs(bool holds) { hold(&syncs, holds); }
 void faults_await_sync(void) { await(&syncs); }

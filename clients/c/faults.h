@@ -11,6 +11,9 @@
 extern atomic_int faults_left;
 extern int faults_error;
 
+/* How many calls by a descriptor of the note of the files' numbers fail from now on. */
+extern atomic_int faults_notes;
+
 /* Whether the call that failed was one on the note of the files' numbers, which fails nothing. */
 extern bool faults_of_note;
 

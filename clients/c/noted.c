@@ -1,48 +1,19 @@
 /* The note of a log's file numbers: `noted FOLDER`. After no kill and no failed call an opening reports a file as missing.
- * Files that someone takes away, or puts there, are reported by each later opening until that is accepted. */
+ * Files that someone takes away are reported; lost.c tests that they are until that is accepted. */
 #include "faults.h"
-#include "keys.h"
+#include "noted.h"
 #include "parts.h"
 
 #include <errno.h>
 #include <signal.h>
 #include <sys/stat.h>
 #include <sys/wait.h>
-#include <unistd.h>
 
-#define RECYCLING SMALL_FILES
-#define DELETING SMALL_FILES "enable-log-recycle = false\n"
-#define SPILLED SMALL_FILES "spill-dir = \"spill\"\n"
 #define COMMENTED DELETING "  # spill-dir = \"other\"\n"
 /* A form that the library doesn't know. */
 #define INDENTED DELETING "  spill-dir = \"spill\"\n"
 
-enum { MANY = 40, FEW = 12, ROOM = 8, PATIENCE = 20, NOBODY = 65534 };
-
-static const char *folder;
-
-static void empty(void) { run("rm -rf '%s' && mkdir '%s'", folder, folder); }
-
-/* Rotations, purges of both queues and closes, in two openings, each of which writes so many keys. */
-static void work_with(const char *settings, int keys) {
-    for (int part = 0; part < 2; part++) {
-        raftlog *log = open_with(folder, settings);
-        for (int i = 0; i < keys / 2; i++) CHECK(put_key(log, 'k', part * keys / 2 + i) == 0);
-        CHECK(raftlog_must_rewrite_append_queue(log, NULL) == 0);
-        CHECK(raftlog_must_rewrite_rewrite_queue(log, NULL) == 0);
-        for (int i = 0; i < keys / 2; i++) CHECK(put_key(log, 'l', i) == 0);
-        CHECK(raftlog_close(log) == 0);
-    }
-}
-
-static void work(const char *settings) { work_with(settings, MANY); }
-
-static size_t lost_in(const char *settings, raftlog_lost *lost) {
-    raftlog *log = open_with(folder, settings);
-    size_t count = raftlog_missing(log, lost, ROOM, sizeof *lost);
-    CHECK(raftlog_close(log) == 0);
-    return count;
-}
+enum { PATIENCE = 20, NOBODY = 65534 };
 
 /* Whether the process was killed at the file call of this number. */
 static bool is_killed_at(int call, const char *settings) {
@@ -70,39 +41,6 @@ static int kill_at_each(const char *settings) {
     return calls - 1;
 }
 
-static void name_of(char name[TEXT_ROOM], uint64_t number) {
-    snprintf(name, TEXT_ROOM, "%s/%016llu.raftlog", folder, (unsigned long long)number);
-}
-
-static bool has_file(uint64_t number) {
-    char name[TEXT_ROOM];
-    name_of(name, number);
-    return !access(name, F_OK);
-}
-
-static void take_away(uint64_t number) {
-    char name[TEXT_ROOM];
-    name_of(name, number);
-    CHECK(!unlink(name));
-}
-
-/* The numbers of the Append queue's files. */
-static void find(uint64_t *first, uint64_t *last) {
-    for (*first = 1; !has_file(*first);) ++*first;
-    for (*last = *first; has_file(*last + 1);) ++*last;
-}
-
-static bool is_lost(const raftlog_lost *lost, int kind, uint64_t first, uint64_t last) {
-    return lost->kind == kind && !lost->is_rewrite && lost->first == first && lost->last == last;
-}
-
-/* Whether the folder has a note. */
-static bool is_noted(void) {
-    char name[TEXT_ROOM];
-    snprintf(name, sizeof name, "%s/SPANS", folder);
-    return !access(name, F_OK);
-}
-
 /* One file is taken away: the first, one between, the last, or all. */
 static void lose(void) {
     raftlog_lost lost[ROOM];
@@ -125,110 +63,6 @@ static void lose(void) {
         CHECK(raftlog_accept_missing(folder, text, sizeof text) == RAFTLOG_IN_USE);
         CHECK(raftlog_close(log) == 0 && lost_in(DELETING, NULL) == 0);
     }
-}
-
-/* What was missing at an earlier opening is reported by later ones, until it is accepted. */
-static void is_remembered(void) {
-    raftlog_lost lost[ROOM];
-    char text[TEXT_ROOM];
-    raftlog *log;
-    for (int opening = 0; opening < 2; opening++) {
-        CHECK(lost_in(DELETING, lost) >= 1 && lost->kind == RAFTLOG_LOST_BEFORE && !lost->is_rewrite);
-        work(DELETING);
-    }
-    CHECK(raftlog_open_whole(folder, DELETING, &log, text, sizeof text) == RAFTLOG_LOST && !log);
-    CHECK(strstr(text, "missing at an earlier opening"));
-    CHECK(raftlog_accept_missing(folder, text, sizeof text) == 0 && lost_in(DELETING, NULL) == 0);
-}
-
-/* A file with a greater number is put there; and a purge drops what was missing. */
-static void stray(void) {
-    raftlog_lost lost[ROOM];
-    uint64_t first, last;
-    char name[TEXT_ROOM], other[TEXT_ROOM];
-    empty();
-    work(DELETING);
-    find(&first, &last);
-    name_of(name, first);
-    name_of(other, last + 5);
-    run("cp '%s' '%s'", name, other);
-    CHECK(lost_in(DELETING, lost) == 1 && is_lost(lost, RAFTLOG_FILE_STRAY, last + 5, last + 5));
-    CHECK(!unlink(other));
-    take_away(first);
-    raftlog *log = open_with(folder, DELETING);
-    CHECK(raftlog_missing(log, lost, ROOM, sizeof *lost) == 1 && is_lost(lost, RAFTLOG_FILE_MISSING, first, first));
-    CHECK(raftlog_must_rewrite_append_queue(log, NULL) == 0 && raftlog_close(log) == 0);
-    is_remembered();
-}
-
-/* A missing file is put back: nothing is lost. A next file gets its number, also if all were gone: that isn't forgotten. */
-static void put_back(void) {
-    raftlog_lost lost[ROOM];
-    uint64_t first, last;
-    char name[TEXT_ROOM], kept[TEXT_ROOM];
-    snprintf(kept, sizeof kept, "%s.kept", folder);
-    for (int is_all = 0; is_all < 2; is_all++) {
-        empty();
-        work(DELETING);
-        find(&first, &last);
-        name_of(name, last);
-        CHECK(!rename(name, kept));
-        CHECK(lost_in(DELETING, lost) == 1 && is_lost(lost, RAFTLOG_FILE_MISSING, last, last));
-        CHECK(!rename(kept, name));
-        CHECK(lost_in(DELETING, NULL) == 0);
-        for (uint64_t number = is_all ? first : last; number <= last; number++) take_away(number);
-        raftlog *log = open_with(folder, DELETING);
-        CHECK(raftlog_missing(log, lost, ROOM, sizeof *lost) == 1 && lost->kind == RAFTLOG_FILE_MISSING);
-        for (int i = 0; i < MANY; i++) CHECK(put_key(log, 'k', i) == 0);
-        CHECK(raftlog_close(log) == 0);
-        is_remembered();
-    }
-}
-
-/* Another program makes files and deletes others: the note is stale, and the opening writes one. */
-static void is_stale(void) {
-    raftlog_lost lost[ROOM];
-    empty();
-    work(DELETING);
-    run("cp '%s/SPANS' '%s.spans'", folder, folder);
-    work(DELETING);
-    run("mv '%s.spans' '%s/SPANS'", folder, folder);
-    CHECK(lost_in(DELETING, lost) >= 1 && lost[0].kind == RAFTLOG_NOTE_STALE);
-    CHECK(lost_in(DELETING, NULL) == 0);
-
-    /* A stale note remembers what was missing. */
-    uint64_t first, last;
-    empty();
-    work(DELETING);
-    find(&first, &last);
-    take_away(first);
-    raftlog *log = open_with(folder, DELETING);
-    CHECK(raftlog_must_rewrite_append_queue(log, NULL) == 0 && raftlog_close(log) == 0);
-    run("cp '%s/SPANS' '%s.spans'", folder, folder);
-    work(DELETING);
-    run("mv '%s.spans' '%s/SPANS'", folder, folder);
-    CHECK(lost_in(DELETING, lost) >= 2 && lost[0].kind == RAFTLOG_LOST_BEFORE && lost[1].kind == RAFTLOG_NOTE_STALE);
-    is_remembered();
-}
-
-/* This file call fails while a next file gets a missing one's number, if it comes: the loss is remembered, or no note is. */
-static bool is_lost_at(int call) {
-    raftlog_lost lost[ROOM];
-    uint64_t first, last;
-    int code = 0;
-    empty();
-    work_with(DELETING, FEW);
-    find(&first, &last);
-    take_away(last);
-    raftlog *log = open_with(folder, DELETING);
-    atomic_store(&faults_left, call);
-    for (int i = 0; i < FEW && !code; i++) code = put_key(log, 'k', i);
-    bool is_reached = !atomic_load(&faults_left);
-    atomic_store(&faults_left, 0);
-    raftlog_close(log);
-    if (!is_noted()) return is_reached;
-    CHECK(lost_in(DELETING, lost) && (lost->kind == RAFTLOG_LOST_BEFORE || (code && lost->kind == RAFTLOG_FILE_MISSING)));
-    return is_reached;
 }
 
 static void put_note(const char *bytes, size_t len) {
@@ -344,36 +178,43 @@ static void note_fails(void) {
     CHECK(of_note > 0);
 }
 
-static void open_as_nobody(uint64_t put) {
+static void is_refused_to_nobody(uint64_t unused) {
+    raftlog *log;
+    char text[TEXT_ROOM];
+    (void)unused;
     CHECK(!setgid(NOBODY) && !setuid(NOBODY));
-    raftlog *log = open_with(folder, DELETING);
-    CHECK(raftlog_missing(log, NULL, 0, 0) == 0);
-    CHECK(put_key(log, 'o', (int)put) == 0 && raftlog_must_rewrite_append_queue(log, NULL) == 0);
-    CHECK(raftlog_close(log) == 0);
+    CHECK(raftlog_open(folder, DELETING, &log, text, sizeof text) == RAFTLOG_FOLDER && !log);
+    CHECK(strstr(text, "SPANS: Permission denied"));
 }
 
-/* The note is another user's: it is removed, if the folder allows that. */
+static void is_open_to_nobody(uint64_t missing) {
+    raftlog_lost lost[ROOM];
+    CHECK(!setgid(NOBODY) && !setuid(NOBODY));
+    CHECK(lost_in(DELETING, lost) == 1 && is_lost(lost, RAFTLOG_FILE_MISSING, missing, missing));
+}
+
+/* The note is another user's: an opening fails and keeps it, since it may report a loss. */
 static void of_another(void) {
     const char *own = folder;
     char place[] = "/dev/shm/noted-XXXXXX";
-    struct stat is;
+    uint64_t first, last;
     if (geteuid()) {
         puts("not root: a note of another user is left out");
         return;
     }
     CHECK(mkdtemp(place));
     folder = place;
-    for (int is_kept = 0; is_kept < 2; is_kept++) {
+    for (int may_read = 0; may_read < 2; may_read++) {
         char note[TEXT_ROOM];
         work(DELETING);
+        find(&first, &last);
+        take_away(first);
         snprintf(note, sizeof note, "%s/SPANS", folder);
         run("chown -R 65534:65534 '%s' && chown 0:0 '%s'", folder, note);
-        CHECK(!chmod(note, is_kept ? 0600 : 0444));
-        if (is_kept) CHECK(!chown(folder, 0, 0) && !chmod(folder, 01777));
-        in_child(open_as_nobody, 1);
-        in_child(open_as_nobody, 2);
-        CHECK(!stat(note, &is) && is.st_uid == (is_kept ? 0 : NOBODY));
-        CHECK(count_in(folder, DELETING, 'o', 3) == 2);
+        CHECK(!chmod(note, may_read ? 0444 : 0600));
+        in_child(is_refused_to_nobody, 0);
+        CHECK(!chown(note, NOBODY, NOBODY) && !chmod(note, 0600));
+        in_child(is_open_to_nobody, first);
         empty();
     }
     run("rm -rf '%s'", folder, folder);
@@ -481,15 +322,11 @@ int main(int argc, char **argv) {
     folder = argv[1];
     int kills = kill_at_each(RECYCLING) + kill_at_each(DELETING) + kill_at_each(SPILLED);
     lose();
-    stray();
-    put_back();
-    is_stale();
     is_unknown();
     is_broken();
     spill();
     delete_last();
     note_fails();
-    for (int call = 1; is_lost_at(call);) call++;
     of_another();
     cancelled();
     settings();

@@ -34,9 +34,8 @@ void parts_let_file_go(raftlog *log) {
     log->path = NULL;
 }
 
-/* Opens the file at a path from the folder to be changed, if it isn't the one that is open. */
+/* Opens the file at a path from the folder to be changed. */
 static int open_file(raftlog *log, const char *path) {
-    if (path == log->path) return 0;
     parts_let_file_go(log);
     const char *name;
     int in = parts_folder_of(log, path, &name);
@@ -75,10 +74,12 @@ static int cut_file(raftlog *log, const char *path, uint64_t size) {
 }
 
 static int write_file(raftlog *log, const uint8_t *bytes, size_t len, uint64_t at) {
+    heap_before_write(&log->behind, at, len);
+    int error = write_at(log->file, bytes, len, at);
+    if (error) return error;
     parts_add(&log->counts.bytes, len);
     parts_add(&log->counts.writes, 1);
-    heap_before_write(&log->behind, at, len);
-    return write_at(log->file, bytes, len, at);
+    return 0;
 }
 
 uint64_t parts_now_ns(void) {
@@ -103,9 +104,10 @@ static int sync_file(raftlog *log) {
     struct stat found;
     /* A file that another program deleted is lost, although the system syncs it. */
     if (!error && !fstat(log->file, &found) && !found.st_nlink) error = ESTALE;
+    if (error) return error;
     count_sync(&log->counts, parts_now_ns() - began);
-    if (!error) heap_synced(&log->behind);
-    return error;
+    heap_synced(&log->behind);
+    return 0;
 }
 
 static bool is_reserved(const char *name) { return strstr(name, ".reserved"); }

@@ -35,9 +35,11 @@ struct numbers {
 };
 
 struct parts_spans {
-    int file;      /* -1: there is no note */
-    bool is_silent; /* no note is written: something else has its name, or no span is known */
-    bool is_behind; /* a note that a missing file is lost was refused */
+    int file;        /* -1: there is no note */
+    bool is_named;   /* a crash leaves the file's name */
+    bool is_silent;  /* no note is written: something else has its name, or no span is known */
+    bool owes_loss;  /* a note of a loss was refused, or removed */
+    bool knows_loss; /* the note reported a loss at the opening */
     struct span queues[QUEUES];
     char spill[SPILL_ROOM]; /* the second folder's path from the log's; empty if there is none */
     uint64_t count;
@@ -128,6 +130,7 @@ static bool is_stale(const struct span *span, const struct numbers *found, uint6
 }
 
 static int add_lost(struct parts_spans *spans, int kind, int queue, uint64_t first, uint64_t last) {
+    spans->knows_loss |= kind != RAFTLOG_NOTE_STALE;
     if (spans->lost_count == spans->lost_room) {
         size_t room = spans->lost_room ? 2 * spans->lost_room : 8;
         raftlog_lost *lost = realloc(spans->lost, room * sizeof *lost);
@@ -167,14 +170,15 @@ static struct span span_of(const struct numbers *found) {
 }
 
 /* The span at an opening: the note's, if it is true, else that of all files. If one of these is missing then, no span is
- * known: a purge may have left the files before it, or someone else may have deleted it. */
-static bool find_span(const struct span *noted, const struct numbers *found, struct span *span) {
+ * known: a purge may have left the files before it, or someone else may have deleted it. If a loss is known anyway, the
+ * span of the files that are read is enough: with it the loss is remembered. */
+static bool find_span(const struct span *noted, const struct numbers *found, bool knows_loss, struct span *span) {
     uint64_t end = end_of(noted, found);
     *span = (struct span){front_of(noted, found), end, false, noted->has_lost};
     if (!is_stale(noted, found, end)) return true;
     *span = span_of(found);
     span->has_lost = noted->has_lost;
-    return span->first == found->all[0];
+    return knows_loss || span->first == found->all[0];
 }
 
 static bool are_same(const struct span *one, const struct span *other) {
@@ -185,7 +189,8 @@ static bool are_same(const struct span *one, const struct span *other) {
 /* ---- the file */
 
 static int remove_note(raftlog *log) {
-    if (unlinkat(log->root, SPANS, 0)) return errno == ENOENT ? 0 : errno;
+    /* If there is none, the sync after an earlier removal may have failed. */
+    if (unlinkat(log->root, SPANS, 0) && errno != ENOENT) return errno;
     return TEMP_FAILURE_RETRY(fsync(log->root)) ? errno : 0;
 }
 
@@ -193,7 +198,10 @@ static int make_note(raftlog *log) {
     int fd = TEMP_FAILURE_RETRY(openat(log->root, SPANS, O_RDWR | O_CREAT | O_EXCL | O_NOFOLLOW | O_CLOEXEC, 0666));
     if (fd < 0) return errno;
     log->spans->file = fd;
-    return ftruncate(fd, 2 * SLOT) ? errno : 0;
+    log->spans->is_named = false;
+    /* A shorter file has notes too. */
+    if (ftruncate(fd, 2 * SLOT)) errno = 0;
+    return 0;
 }
 
 /* Writes and syncs a note of the spans. */
@@ -201,9 +209,8 @@ static int write_note(raftlog *log) {
     struct parts_spans *spans = log->spans;
     uint8_t slot[SLOT];
     int place = !spans->synced;
-    bool is_new = spans->file < 0;
     if (spans->is_silent) return 0;
-    int error = is_new ? make_note(log) : 0;
+    int error = spans->file < 0 ? make_note(log) : 0;
     if (error) return error;
     fill(spans, spans->count + 1, slot);
     ssize_t moved;
@@ -212,16 +219,23 @@ static int write_note(raftlog *log) {
     spans->count++;
     if (TEMP_FAILURE_RETRY(fdatasync(spans->file))) return errno;
     spans->synced = place;
-    return is_new && TEMP_FAILURE_RETRY(fsync(log->root)) ? errno : 0;
+    if (!spans->is_named && TEMP_FAILURE_RETRY(fsync(log->root))) return errno;
+    spans->is_named = true;
+    spans->owes_loss = false;
+    return 0;
 }
 
-/* A note that can't be written is removed: without one nothing is reported as missing. */
+/* A note that can't be written is removed: without one nothing is reported as missing. A loss that it had is owed to the
+ * next one. */
 static int write_or_remove(raftlog *log) {
     struct parts_spans *spans = log->spans;
     if (spans->file < 0 || (!spans->is_silent && !write_note(log))) return 0;
+    int error = remove_note(log);
+    if (error) return error;
     close(spans->file);
     spans->file = -1;
-    return remove_note(log);
+    spans->owes_loss = spans->knows_loss && !spans->is_silent;
+    return 0;
 }
 
 static int read_note(struct parts_spans *spans, int fd) {
@@ -239,8 +253,8 @@ static int read_note(struct parts_spans *spans, int fd) {
     return 0;
 }
 
-/* A note that can't be opened or read is removed, as if there was none. If that fails, none is written. A want of memory or
- * of descriptors says nothing of the note: it is returned. */
+/* A note that can't be read is removed, as if there was none. If that fails, none is written. A want of a permission, of
+ * memory or of descriptors says nothing of the note, which may report a loss: it is returned. */
 static int open_note(raftlog *log) {
     struct parts_spans *spans = log->spans;
     struct stat is;
@@ -254,7 +268,8 @@ static int open_note(raftlog *log) {
     int error = fd < 0 ? errno : read_note(spans, fd);
     if (!error && !spans->is_silent) spans->file = fd;
     else if (fd >= 0) close(fd);
-    if (error == ENOMEM || error == EMFILE || error == ENFILE) return error;
+    bool may_be_sound = error == EACCES || error == EPERM || error == ENOMEM || error == EMFILE || error == ENFILE;
+    if (may_be_sound) return error;
     if (error) spans->is_silent = remove_note(log) != 0;
     return 0;
 }
@@ -316,6 +331,7 @@ int parts_begin_spans(raftlog *log, const char *settings) {
     if (!spans) return ENOMEM;
     log->spans = spans;
     spans->file = -1;
+    spans->is_named = true;
     spans->synced = 1;
     spans->queues[APPEND] = spans->queues[REWRITE] = empty;
     int error = open_note(log);
@@ -342,7 +358,7 @@ int parts_find_span(raftlog *log, const char *path) {
 }
 
 /* A new note is written if there is none, if a crash left it old, or if another program made it stale; but none if a
- * file may be missing. */
+ * file may be missing, unless the note reports a loss, which is to be remembered. */
 int parts_judge_spans(raftlog *log) {
     struct parts_spans *spans = log->spans;
     struct span now[QUEUES];
@@ -353,7 +369,9 @@ int parts_judge_spans(raftlog *log) {
         struct numbers *found = &spans->found[queue];
         if (found->count) qsort(found->all, found->count, sizeof *found->all, compare);
         if (spans->count) error = report(spans, queue);
-        is_known &= find_span(&spans->queues[queue], found, &now[queue]);
+    }
+    for (int queue = 0; queue < QUEUES && !error; queue++) {
+        is_known &= find_span(&spans->queues[queue], &spans->found[queue], spans->knows_loss, &now[queue]);
         is_old |= !are_same(&spans->queues[queue], &now[queue]);
     }
     spans->is_silent = !is_known;
@@ -381,11 +399,11 @@ void parts_replace_span(raftlog *log, const char *path) {
     if (queue >= 0 && spans->is_silent) write_or_remove(log);
     if (queue < 0 || !was_missing(spans, queue, number, UINT64_MAX) || spans->queues[queue].has_lost) return;
     spans->queues[queue].has_lost = true;
-    spans->is_behind = write_note(log) != 0;
+    spans->owes_loss = write_note(log) != 0;
 }
 
 void parts_catch_up_spans(raftlog *log) {
-    if (log->spans->is_behind) log->spans->is_behind = write_note(log) != 0;
+    if (log->spans->owes_loss) log->spans->owes_loss = write_note(log) != 0;
 }
 
 /* A later number that doesn't follow changes nothing, so that such files are still reported. An earlier one comes if all

@@ -35,11 +35,12 @@ class Span:
     def __eq__(self, other):
         return vars(self) == vars(other)
 
-    def at_opening(self, files):
-        """The span with which an opening goes on; None if none is known: a file may be missing, and there is no true note."""
+    def at_opening(self, files, knows_loss):
+        """The span with which an opening goes on; None if none is known: a file may be missing, and there is no true note. If
+        the note reports a loss, of this queue or the other one, the files that are read are enough."""
         if self.is_stale(files):
             run = kept(files)
-            return Span(run[0], run[-1], has_lost=self.has_lost) if run[0] == min(files) else None
+            return Span(run[0], run[-1], has_lost=self.has_lost) if knows_loss or run[0] == min(files) else None
         return Span(self.front(files), self.end(files), has_lost=self.has_lost)
 
     def add(self, number):

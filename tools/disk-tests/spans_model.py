@@ -11,8 +11,8 @@ The model fails if a note ever reports as missing, stray or lost before what onl
 writes no notes: what is reported falsely there is counted. It counts what is reported of files that are taken away, or put
 there, between two calls. The controls must report something false: a note that is written too late, or that is not synced.
 In the runs `lossy` files are taken away for good: from the first opening that reports one on, each opening must report a loss.
-Without the mark of losses some openings must forget one. Beside a program that writes no notes a mark stays as long as the
-note. Status: 0 if all this is so."""
+Without the mark of losses some openings must forget one. Beside a program that writes no notes a mark stays too; it must not
+if a stale note with a gap of the numbers is removed (`unknown gap`). Status: 0 if all this is so."""
 import argparse
 import itertools
 import random
@@ -21,7 +21,8 @@ import sys
 from spans import Span, kept
 
 RUNS = ('disk', 'c', 'mixed', 'foreign')
-LOSSY, LOSSY_FOREIGN, NO_MARK = 'lossy', 'lossy, foreign', 'lossy without a mark'
+LOSSY, LOSSY_FOREIGN, NO_MARK, UNKNOWN_GAP = 'lossy', 'lossy, foreign', 'lossy without a mark', 'unknown gap'
+LOSS_CHANCES = {LOSSY: .2, LOSSY_FOREIGN: .8}
 CONTROLS = ('first-late', 'first-unsynced', 'slots-in-turn', 'last-early', 'no-dropping-mark')
 
 
@@ -122,6 +123,7 @@ class Log:
     def forget(self):
         """Before a name goes, a process that knows no span removes the note."""
         if self.writer != 'foreign':
+            self.unmarked += self.was_marked
             self.slots, self.synced, self.was_marked = [[TORN], [TORN]], 1, False
 
     def delete(self, number, up_to):
@@ -187,15 +189,15 @@ class Log:
         if writer == 'foreign':
             self.span = None
         else:
-            self.see_losses(note or Span())
-            self.span = (note or Span()).at_opening(self.files)
+            knows_loss = self.see_losses(note or Span()) and self.control != UNKNOWN_GAP
+            self.span = (note or Span()).at_opening(self.files, knows_loss)
             if self.span is not None and self.span != (note or Span()):
                 self.write(True)
         if not run:
             self.make(1)
 
     def see_losses(self, note):
-        """What an opening reports."""
+        """Notes what an opening reports; returns whether it reports a loss."""
         self.missing, strays, _, _ = note.report(self.files)
         has_losses = bool(self.missing or strays or note.has_lost)
         self.openings += self.was_reported
@@ -203,6 +205,7 @@ class Log:
         self.was_reported |= has_losses
         self.unmarked += self.was_marked and not note.has_lost
         self.was_marked |= note.has_lost
+        return has_losses
 
     def take_away(self):
         """Someone deletes files that are needed: one of them, the last one, or all."""
@@ -254,8 +257,8 @@ class Counts:
 def play(seed, run, control, counts):
     chance = random.Random(seed)
     writer_of = {LOSSY: lambda: chance.choice(('disk', 'c')),
-                 LOSSY_FOREIGN: lambda: chance.choice(('disk', 'c', 'foreign')), 'disk': lambda: 'disk', 'c': lambda: 'c', 'mixed': lambda: chance.choice(('disk', 'c')),
-                 'foreign': lambda: chance.choice(('disk', 'c', 'foreign'))}[run]
+                 LOSSY_FOREIGN: lambda: chance.choice(('disk', 'c', 'foreign')), 'disk': lambda: 'disk',
+                 'c': lambda: 'c', 'mixed': lambda: chance.choice(('disk', 'c')), 'foreign': lambda: chance.choice(('disk', 'c', 'foreign'))}[run]
     log = Log(chance, 'disk', control, counts.look)
     log.open(writer_of())
     for _ in range(40):
@@ -270,7 +273,7 @@ def play(seed, run, control, counts):
                 log.close()
                 log.crash_in = None
                 log.crash()
-                if run in (LOSSY, LOSSY_FOREIGN) and chance.random() < .2:
+                if run in LOSS_CHANCES and chance.random() < LOSS_CHANCES[run]:
                     log.take_away()
                 log.open(writer_of())
             counts.spoil(log)
@@ -301,10 +304,11 @@ def main():
         openings, forgotten = (sum(getattr(log, it) for log in logs) for it in ('openings', 'forgotten'))
         print(f'{control or LOSSY}: {openings} openings after a loss was reported, {forgotten} of them report nothing')
         is_good = is_good and openings and bool(control) == (forgotten > 0)
-    logs = [play(seed, LOSSY_FOREIGN, '', Counts()) for seed in range(words.seeds)]
-    unmarked, marked = sum(log.unmarked for log in logs), sum(log.was_marked for log in logs)
-    print(f'{LOSSY_FOREIGN}: {marked} logs end with a mark, {unmarked} openings lost one although the note stayed')
-    is_good = is_good and marked and not unmarked
+    for control in ('', UNKNOWN_GAP):
+        logs = [play(seed, LOSSY_FOREIGN, control, Counts()) for seed in range(words.seeds)]
+        unmarked, marked = sum(log.unmarked for log in logs), sum(log.was_marked for log in logs)
+        print(f'{control or LOSSY_FOREIGN}: {marked} logs end with a mark, {unmarked} times one was lost')
+        is_good = is_good and marked and bool(control) == (unmarked > 0)
     print('as it should be' if is_good else 'NOT AS IT SHOULD BE')
     return 0 if is_good else 1
 

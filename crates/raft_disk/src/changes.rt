@@ -1,5 +1,5 @@
-//! Changes of names in a folder, each with the notes before and after it. No clause says what the
-//! system did: this file is to be read.
+//! Changes of names in a folder, each with the notes before and after it, and counted. No clause
+//! says what the system did: this file is to be read.
 ghost use Rattle.std.specs.Prelude.{◌≡◌};
 
 use crate::folder::Folder;
@@ -46,9 +46,11 @@ impl Folder {
         ensures told { told_of self.new ≡ told_of self.old }
     {
         self.check_lock()?;
+        let is_new = !self.has_name(path)?;
         self.spans.replace(&self.rt, &self.root, path);
         self.make_file(path)?;
         self.spans.add(&self.rt, &self.root, path);
+        self.counts.add_file(path, is_new);
         Ok(())
     }
 
@@ -57,17 +59,21 @@ impl Folder {
     {
         self.check_lock()?;
         self.spans.delete(&self.rt, &self.root, path)?;
-        self.remove_file(path)
+        self.remove_file(path)?;
+        self.counts.add_deletion();
+        Ok(())
     }
 
     pub(crate) fn move_file(&mut self, from: &str, to: &str) -> io::Result<()>
         ensures told { told_of self.new ≡ told_of self.old }
     {
         self.check_lock()?;
+        let is_new = !self.has_name(to)?;
         self.spans.leave(&self.rt, &self.root, from)?;
         self.spans.replace(&self.rt, &self.root, to);
         self.rename_file(from, to)?;
         self.spans.add(&self.rt, &self.root, to);
+        self.counts.add_renaming(to, is_new);
         Ok(())
     }
 

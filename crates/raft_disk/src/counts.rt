@@ -21,7 +21,10 @@ pub struct DiskCounts {
     /// Files that a queue has begun; of these, files that were dropped or reserved before.
     pub next_files: u64,
     pub recycled_files: u64,
+    /// Files that purges and closes deleted. `delete_reserved` is not counted.
     pub deleted_files: u64,
+    /// The log's files now, reserved ones too, except those that the opening passed over.
+    pub files: u64,
 }
 
 impl DiskCounts {
@@ -35,6 +38,7 @@ impl DiskCounts {
         next_files: 0,
         recycled_files: 0,
         deleted_files: 0,
+        files: 0,
     };
 
     pub(crate) fn add_write(&mut self, bytes: usize) {
@@ -57,18 +61,29 @@ impl DiskCounts {
         }
     }
 
-    /// A file got this path, and was another one before if it is recycled.
-    pub(crate) fn add_file(&mut self, path: &str, is_recycled: bool) {
-        if is_reserved_name(path) {
-            return;
+    /// A file was made at this path, which had none before if it is new.
+    pub(crate) fn add_file(&mut self, path: &str, is_new: bool) {
+        if is_new {
+            self.files = self.files.saturating_add(1);
         }
-        self.next_files = self.next_files.saturating_add(1);
-        if is_recycled {
+        if !is_reserved_name(path) {
+            self.next_files = self.next_files.saturating_add(1);
+        }
+    }
+
+    /// A file was renamed to this path, which had none before if it is new.
+    pub(crate) fn add_renaming(&mut self, path: &str, is_new: bool) {
+        if !is_new {
+            self.files = self.files.saturating_sub(1);
+        }
+        if !is_reserved_name(path) {
+            self.next_files = self.next_files.saturating_add(1);
             self.recycled_files = self.recycled_files.saturating_add(1);
         }
     }
 
     pub(crate) fn add_deletion(&mut self) {
+        self.files = self.files.saturating_sub(1);
         self.deleted_files = self.deleted_files.saturating_add(1);
     }
 }

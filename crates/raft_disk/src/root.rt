@@ -66,7 +66,7 @@ impl Root {
     }
 }
 
-// Linux has a path of each open file that leads to that file; elsewhere it is the folder's own.
+// Linux has a path of each open file that leads to that file. Other systems use the folder's own.
 fn path_of_open(rt: &HostRuntime, folder: &File, path: &str) -> io::Result<String> {
     let alloc = rt.alloc();
     let open = folder.metadata()?;

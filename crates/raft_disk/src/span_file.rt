@@ -14,19 +14,30 @@ use std::fs::{self, File, OpenOptions};
 use std::io::{self, ErrorKind, Read};
 use std::os::unix::fs::{FileExt, MetadataExt};
 
+/// What the folder knows, and the note on the disk does not have.
+#[derive(Clone, Copy, PartialEq)]
+enum Owed {
+    Nothing,
+    /// Deletions, for which a crash may leave the note before.
+    Deletions,
+    /// A loss, for which a note has to be synced.
+    Loss,
+}
+
 /// The file of the note, and the spans as the folder knows them.
 #[derive(Drop)]
 pub(crate) struct SpanFile {
     /// The file that has a note; none if there is none.
     file: Option<File>,
+    /// Whether a crash leaves the file's name.
+    is_named: bool,
     /// Whether no note is written: something else has its name, or no span is known.
     is_silent: bool,
     spans: Spans,
     count: u64,
     /// The slot of the note that a crash leaves.
     synced: u64,
-    /// Whether the folder knows more than the note.
-    is_behind: bool,
+    owed: Owed,
     /// What the note said at the opening; none if there was no note.
     reports: Option<SpanReports>,
 }
@@ -35,17 +46,19 @@ impl SpanFile {
     fn new(alloc: Global) -> SpanFile {
         SpanFile {
             file: None,
+            is_named: true,
             is_silent: false,
             spans: Spans::empty(alloc),
             count: 0,
             synced: 1,
-            is_behind: false,
+            owed: Owed::Nothing,
             reports: None,
         }
     }
 
-    /// Reads the note of a folder, after it was synced. A note that cannot be read is removed; if
-    /// that fails too, none is written.
+    /// Reads the note of a folder, after it was synced. It fails if the note may not be opened, and
+    /// for lack of memory or descriptors. A note that cannot be read for another cause is removed;
+    /// if that fails too, none is written.
     pub(crate) fn open(rt: &HostRuntime, root: &Root) -> io::Result<SpanFile> {
         let mut found = SpanFile::new(rt.alloc());
         let place = root.place(rt.alloc(), SPANS)?;
@@ -59,8 +72,7 @@ impl SpanFile {
         }
         match found.read(rt, place.as_str()) {
             Ok(()) => Ok(found),
-            // The note may be sound.
-            Err(e) if is_lack(&e) => Err(e),
+            Err(e) if may_be_sound(&e) => Err(e),
             Err(_) => {
                 found = SpanFile::new(rt.alloc());
                 found.is_silent = remove_note(rt, root).is_err();
@@ -98,7 +110,8 @@ impl SpanFile {
     }
 
     /// Compares the note with the files that an opening found. Writes a new one if there is none, if
-    /// a crash left it old, or if another program made it stale; but none if a file may be missing.
+    /// a crash left it old, or if another program made it stale; but none if a file may be missing,
+    /// unless the note reports a loss, which is to be remembered.
     pub(crate) fn begin(
         &mut self,
         rt: &HostRuntime,
@@ -114,10 +127,11 @@ impl SpanFile {
                 rewrite: self.spans.rewrite.report(alloc, &rewrite)?,
             });
         }
+        let knows_loss = self.knows_loss();
         let (noted_append, noted_rewrite) = (self.spans.append, self.spans.rewrite);
         let (Some(append), Some(rewrite)) = (
-            noted_append.at_opening(&append),
-            noted_rewrite.at_opening(&rewrite),
+            noted_append.at_opening(&append, knows_loss),
+            noted_rewrite.at_opening(&rewrite, knows_loss),
         ) else {
             self.is_silent = true;
             return Ok(());
@@ -148,14 +162,22 @@ impl SpanFile {
         Ok(numbers)
     }
 
+    // Whether the note reported a loss at the opening.
+    fn knows_loss(&self) -> bool {
+        match &self.reports {
+            Some(reports) => reports.has_losses(),
+            None => false,
+        }
+    }
+
     /// What the note said at the opening; none if there was no note.
     pub(crate) fn reports(&self) -> Option<&SpanReports> {
         self.reports.as_ref()
     }
 
     /// Notes and syncs that a file will be made, if it hides that one was missing at the opening. If
-    /// that is refused, it is tried again at the next write or sync. If no note is written, the one
-    /// before is removed.
+    /// that is refused, each next write and sync tries it again. If no note is written, the one
+    /// before is removed; if that is refused, the next change of a name tries it again.
     pub(crate) fn replace(&mut self, rt: &HostRuntime, root: &Root, path: &str) {
         let Some((queue, number)) = self.spans.number_at(path) else {
             return;
@@ -169,7 +191,7 @@ impl SpanFile {
             None => false,
         };
         if hides && self.lose(queue) && self.write(rt, root, true).is_err() {
-            self.is_behind = true;
+            self.owed = Owed::Loss;
         }
     }
 
@@ -226,17 +248,23 @@ impl SpanFile {
         if self.lose_passed(queue) || is_due {
             self.write_or_remove(rt, root)?;
         }
-        self.is_behind = true;
+        if self.owed == Owed::Nothing && self.file.is_some() {
+            self.owed = Owed::Deletions;
+        }
         Ok(())
     }
 
-    /// Writes what the deletions before this call left. A crash may leave the note before.
+    /// Writes what the changes before this call left. If that is refused, a loss is tried again at
+    /// the next call; deletions are not, since the note before is true.
     pub(crate) fn catch_up(&mut self, rt: &HostRuntime, root: &Root) {
-        if self.is_behind && self.file.is_some() {
-            self.end_dropping();
-            let _ = self.write(rt, root, false);
+        if self.owed == Owed::Nothing {
+            return;
         }
-        self.is_behind = false;
+        self.end_dropping();
+        let is_loss = self.owed == Owed::Loss;
+        if self.write(rt, root, is_loss).is_ok() || !is_loss {
+            self.owed = Owed::Nothing;
+        }
     }
 
     fn end_dropping(&mut self) {
@@ -244,12 +272,19 @@ impl SpanFile {
         self.spans.rewrite.is_dropping = false;
     }
 
+    // A loss that a removed note had is owed to the next one.
     fn write_or_remove(&mut self, rt: &HostRuntime, root: &Root) -> io::Result<()> {
         if self.file.is_none() || (!self.is_silent && self.write(rt, root, true).is_ok()) {
             return Ok(());
         }
+        remove_note(rt, root)?;
         self.file = None;
-        remove_note(rt, root)
+        self.owed = if self.knows_loss() {
+            Owed::Loss
+        } else {
+            Owed::Nothing
+        };
+        Ok(())
     }
 
     fn write(&mut self, rt: &HostRuntime, root: &Root, is_synced: bool) -> io::Result<()> {
@@ -258,9 +293,9 @@ impl SpanFile {
         }
         let slot = 1 ^ (self.synced & 1);
         let bytes = self.spans.slot(rt.alloc(), self.count.saturating_add(1))?;
-        let is_new = self.file.is_none();
-        if is_new {
+        if self.file.is_none() {
             self.file = Some(make_note(rt, root)?);
+            self.is_named = false;
         }
         if let Some(file) = &self.file {
             file.write_all_at(&bytes, slot * SLOT_LEN as u64)?;
@@ -268,28 +303,35 @@ impl SpanFile {
             if is_synced {
                 file.sync_data()?;
                 self.synced = slot;
-                self.is_behind = false;
             }
         }
-        if is_new {
+        if !self.is_named {
             sync_folder(rt, root.at())?;
+            self.is_named = true;
+        }
+        if is_synced {
+            self.owed = Owed::Nothing;
         }
         Ok(())
     }
 }
 
-// Whether memory or descriptors were lacking, which says nothing of the file.
-fn is_lack(error: &io::Error) -> bool {
-    error.kind() == ErrorKind::OutOfMemory || matches!(error.raw_os_error(), Some(23 | 24))
+// Whether the note was not read for want of a permission, of memory or of descriptors. This says
+// nothing of the note, which may report a loss.
+fn may_be_sound(error: &io::Error) -> bool {
+    matches!(
+        error.kind(),
+        ErrorKind::PermissionDenied | ErrorKind::OutOfMemory
+    ) || matches!(error.raw_os_error(), Some(23 | 24))
 }
 
 /// Removes the note of a folder, so that a crash doesn't bring it back. None may be there.
 pub(crate) fn remove_note(rt: &HostRuntime, root: &Root) -> io::Result<()> {
     let place = root.place(rt.alloc(), SPANS)?;
     match fs::remove_file(rt, place.as_str()) {
-        Ok(()) => sync_folder(rt, root.at()),
-        Err(e) if e.kind() == ErrorKind::NotFound => Ok(()),
-        Err(e) => Err(e),
+        Err(e) if e.kind() != ErrorKind::NotFound => Err(e),
+        // The sync after an earlier removal may have failed.
+        _ => sync_folder(rt, root.at()),
     }
 }
 

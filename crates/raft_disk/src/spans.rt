@@ -57,7 +57,7 @@ pub struct SpanNote {
     pub spans: Spans,
 }
 
-/// What a note tells of a queue's files.
+/// What a note reports of a queue's files.
 #[derive(Drop)]
 pub struct SpanReport {
     /// The numbers of files that are needed and do not exist, as ranges: the least and the greatest.
@@ -72,7 +72,7 @@ pub struct SpanReport {
     pub is_stale: bool,
 }
 
-/// What a note tells of both queues' files.
+/// What a note reports of both queues' files.
 #[derive(Drop)]
 pub struct SpanReports {
     pub append: SpanReport,
@@ -83,6 +83,14 @@ impl SpanReports {
     /// Whether a file is missing or was, or one does not belong to its queue.
     pub fn has_losses(&self) -> bool {
         self.append.has_losses() || self.rewrite.has_losses()
+    }
+
+    /// A copy of both reports.
+    pub fn copied(&self, alloc: Global) -> Result<SpanReports, AllocError> {
+        Ok(SpanReports {
+            append: self.append.copied(alloc)?,
+            rewrite: self.rewrite.copied(alloc)?,
+        })
     }
 
     pub(crate) fn of(&self, queue: LogQueue) -> &SpanReport {
@@ -107,6 +115,16 @@ impl SpanReport {
     /// Whether a file is missing or was, or one does not belong to its queue.
     pub fn has_losses(&self) -> bool {
         self.has_lost || !self.missing.is_empty() || !self.strays.is_empty()
+    }
+
+    fn copied(&self, alloc: Global) -> Result<SpanReport, AllocError> {
+        let mut copy = SpanReport::new(alloc);
+        copy.has_lost = self.has_lost;
+        copy.is_stale = self.is_stale;
+        copy.missing.extend_from_slice(&self.missing)?;
+        copy.strays.extend_from_slice(&self.strays)?;
+        copy.left_over.extend_from_slice(&self.left_over)?;
+        Ok(copy)
     }
 
     // Whether a file that gets this number hides that one is missing.
@@ -207,15 +225,17 @@ impl Span {
 
     /// The span at an opening that found files of these numbers: the note's, if it is true. Without
     /// a note it is that of all files. If one of these is missing then, no span is known: a purge may
-    /// have left the files before it, or someone else may have deleted it.
-    pub(crate) fn at_opening(&self, numbers: &[u64]) -> Option<Span> {
+    /// have left the files before it, or someone else may have deleted it. If a loss is known anyway,
+    /// the span of the files that are read is enough: with it the loss is remembered.
+    pub(crate) fn at_opening(&self, numbers: &[u64], knows_loss: bool) -> Option<Span> {
         let end = self.end(numbers);
         if self.is_stale(numbers, end) {
             let span = Span {
                 has_lost: self.has_lost,
                 ..Span::of(numbers)
             };
-            return (numbers.first() == Some(&span.first)).then_some(span);
+            let has_no_gap = numbers.first() == Some(&span.first);
+            return (knows_loss || has_no_gap).then_some(span);
         }
         Some(Span {
             first: self.front(numbers),

@@ -1,6 +1,10 @@
-//! What a program names of the log, under one name and in the modules of upstream: nothing here is
+//! What a program names of the log, under one name and in the modules of upstream. Only `stats` is
 //! code of its own.
 #![tactic(auto)]
+
+#[cfg(test)]
+mod counted;
+pub mod stats;
 
 /// Settings, and settings from text and as text.
 pub mod config {
@@ -12,6 +16,7 @@ pub mod config {
 pub mod env {
     pub use raft_disk::{
         DiskCounts, DiskFileSystem, OpenFault, Span, SpanNote, SpanReport, SpanReports, Spans,
+        TIMES,
     };
     pub use raft_env::{FileSystem, FsFault, IoKind, Permission};
     pub use raft_memory::{Choice, FsCall, MemoryFileSystem};
@@ -37,10 +42,10 @@ pub mod lines {
     pub use raft_lines::{Ended, serve};
 }
 
-/// What an opening would lose of the log files, found before it.
-/// `DiskFileSystem::span_reports` says which files are missing.
+/// What an opening would lose of the log files, found before it; of a folder also which files are
+/// missing or too many by its note.
 pub mod losses {
-    pub use raft_inspect::{Cut, Losses, Passed, Unexplained};
+    pub use raft_inspect::{Cut, FolderLosses, Losses, Passed, Unexplained};
 }
 
 /// One engine for many threads, beside the history of their calls.
@@ -64,7 +69,7 @@ pub mod script {
 
 pub use config::{Config, RecoveryMode};
 pub use env::{DiskFileSystem, FileSystem, MemoryFileSystem};
-pub use losses::Losses;
+pub use losses::{FolderLosses, Losses};
 pub use raft_fork::{CopyDetails, fork};
 pub use raft_log_engine::{
     CacheCounts, Engine, Event, EventListener, EventSink, FileKeeper, FileSpans, GroupImage, Image,

@@ -1,6 +1,10 @@
 //! The trait of a folder of the operating system, so that tests are written over any files.
 
+use raft_config::Config;
 use raft_disk::{DiskCounts, DiskFileSystem, OpenFault};
+use raft_inspect::FolderLosses;
+use raft_records::{Fault, Fresh};
+use std::alloc::Global;
 
 /// The files that an opening reads.
 #[derive(Clone, Copy)]
@@ -26,6 +30,9 @@ pub(crate) trait Disk {
     fn delete_unread(&self) -> Result<(), OpenFault>;
 
     fn call_counts(&self) -> DiskCounts;
+
+    /// What an opening loses by the default settings.
+    fn losses(&mut self, alloc: Global) -> Result<FolderLosses, Fault>;
 
     /// The text of the last call that the system refused.
     fn last_refusal(&self) -> Option<&str>;
@@ -53,6 +60,10 @@ impl Disk for DiskFileSystem {
 
     fn call_counts(&self) -> DiskCounts {
         self.counts()
+    }
+
+    fn losses(&mut self, alloc: Global) -> Result<FolderLosses, Fault> {
+        FolderLosses::find(alloc, &Config::fresh(alloc), self)
     }
 
     fn delete_unread(&self) -> Result<(), OpenFault> {

@@ -22,6 +22,7 @@ pub(crate) enum Tried {
     NoLooks,
     Lost(&'static lost_files::Case),
     Counted,
+    Noted,
 }
 
 fn holds<F: Disk + FileSystem + Drop>(rt: HostRuntime, folder: &str, tried: &Tried) -> bool {
@@ -38,6 +39,7 @@ fn holds<F: Disk + FileSystem + Drop>(rt: HostRuntime, folder: &str, tried: &Tri
         Tried::NoLooks => views::fail_so(rt, folder),
         Tried::Lost(case) => lost_files::is_reported::<F>(rt, folder, case),
         Tried::Counted => lost_files::are_counted::<F>(rt, folder),
+        Tried::Noted => lost_files::are_found::<F>(rt, folder),
     }
 }
 

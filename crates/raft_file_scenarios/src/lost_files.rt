@@ -6,6 +6,7 @@ use crate::reads::{loses, writes};
 use crate::told::{assert_case, assert_row};
 use raft_disk::{DiskCounts, OpenFault};
 use raft_env::FileSystem;
+use raft_inspect::FolderLosses;
 
 const A: &str = "0000000000000001.raftlog";
 
@@ -14,6 +15,13 @@ const B: &str = "0000000000000002.raftlog";
 const C: &str = "0000000000000003.raftlog";
 
 const D: &str = "0000000000000004.raftlog";
+
+/// The next files, and those after a gap. With them another program makes the note stale.
+const FIFTH: &str = "0000000000000005.raftlog";
+
+const SIXTH: &str = "0000000000000006.raftlog";
+
+const EIGHTH: &str = "0000000000000008.raftlog";
 
 const AFTER: &str = "0000000000000009.raftlog";
 
@@ -39,7 +47,7 @@ use Step::{Accept, Delete, Make, Put, Rename, Take};
 /// The steps of each of several openings, and what the last opening says of files.
 pub(crate) struct Case(&'static [&'static [Step]], Option<&'static str>);
 
-static CASES: [Case; 12] = [
+static CASES: [Case; 15] = [
     Case(&[], None),
     Case(
         &[
@@ -76,6 +84,29 @@ static CASES: [Case; 12] = [
         ),
     ),
     Case(&[&[Take(B)], &[Delete(A), Delete(C)], &[Accept]], None),
+    Case(
+        &[
+            &[Take(B)],
+            &[Delete(A), Delete(C), Put(FIFTH), Put(SIXTH), Put(EIGHTH)],
+            &[Make(AFTER)],
+        ],
+        Some("NUMBER.raftlog files were missing at an earlier opening"),
+    ),
+    Case(
+        &[
+            &[Take(R)],
+            &[Make(R), Put(FIFTH), Put(SIXTH), Put(EIGHTH)],
+            &[Make(AFTER)],
+        ],
+        Some("NUMBER.rewrite files were missing at an earlier opening"),
+    ),
+    Case(
+        &[
+            &[Take(R), Put(FIFTH), Put(SIXTH), Put(EIGHTH)],
+            &[Make(AFTER)],
+        ],
+        Some("0000000000000001.rewrite is missing"),
+    ),
 ];
 
 // What the log does.
@@ -174,6 +205,48 @@ fn lost_files_are_reported_until_they_are_accepted(rt: HostRuntime) {
     }
 }
 
+// Whether the losses of an opening have these missing files by the note, and no files that it passes
+// over: the log's files hold nothing.
+fn finds(losses: &FolderLosses, missing: &[(u64, u64)]) -> bool {
+    match &losses.noted {
+        Some(noted) => {
+            noted.append.missing.as_slice() == missing
+                && noted.rewrite.missing.is_empty()
+                && losses.losses.passed.is_empty()
+        }
+        None => false,
+    }
+}
+
+fn finds_so<F: Disk + Drop>(rt: HostRuntime, folder: &str, missing: &[(u64, u64)]) -> bool {
+    let opened: Result<F, OpenFault> = F::open_folder(rt, folder, Reading::All);
+    match opened {
+        Ok(mut files) => match files.losses(rt.alloc()) {
+            Ok(losses) => finds(&losses, missing),
+            Err(_) => false,
+        },
+        Err(_) => false,
+    }
+}
+
+/// Whether the losses of an opening have the files that are missing by the note.
+pub(crate) fn are_found<F: Disk + FileSystem + Drop>(rt: HostRuntime, folder: &str) -> bool {
+    begins::<F>(rt, folder)
+        && finds_so::<F>(rt, folder, &[])
+        && loses(&rt, folder, A)
+        && loses(&rt, folder, D)
+        && finds_so::<F>(rt, folder, &[(1, 1), (4, 4)])
+}
+
+#[test]
+fn losses_of_a_folder_have_what_its_note_reports(rt: HostRuntime) {
+    assert_row(
+        &rt,
+        holds_in_folder(rt, "noted", &Tried::Noted),
+        "the first and the last file are missing",
+    );
+}
+
 fn writes_twice<F: FileSystem>(files: &mut F, handle: &F::Handle) -> bool {
     match files.new_writer(handle) {
         Ok(mut writer) => {
@@ -200,12 +273,13 @@ fn are_so(counts: &DiskCounts) -> bool {
         counts.next_files,
         counts.recycled_files,
         counts.deleted_files,
+        counts.files,
     );
     let mut timed = 0u64;
     for syncs in &counts.sync_times {
         timed = timed.saturating_add(*syncs);
     }
-    calls == (2, 9, 1) && names == (3, 1, 1) && timed == 1
+    calls == (2, 9, 1) && names == (3, 1, 1, 1) && timed == 1
 }
 
 /// Whether the calls of a folder are counted.

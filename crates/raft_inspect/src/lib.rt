@@ -5,6 +5,7 @@
 mod behind;
 mod cuts;
 mod filter;
+mod folder_losses;
 mod items;
 mod kept;
 mod lines;
@@ -20,6 +21,7 @@ mod usage;
 pub use behind::{Behind, BehindSearch, search_behind};
 pub use cuts::{Cut, Unexplained, cuts_of};
 pub use filter::{Filter, ItemKind};
+pub use folder_losses::FolderLosses;
 pub use items::{add_fault, add_item};
 pub use lines::{Field, Lines, Word};
 pub use losses::{Losses, Passed};

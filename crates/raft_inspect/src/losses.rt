@@ -45,8 +45,9 @@ pub struct Losses {
 impl Losses {
     /// What an opening with these settings would lose of the log's files, found before it and
     /// without a change. These are the bytes that it would cut off, except zeros that were
-    /// allocated ahead, and the files that it would pass over. It fails with `Io` if a storage call
-    /// failed, or with `Memory`.
+    /// allocated ahead, and the files that it would pass over. A first or last file that is missing
+    /// does not show in the files: `FolderLosses::find` reads the note of a folder too. It fails with
+    /// `Io` if a storage call failed, or with `Memory`.
     pub fn find<F: FileSystem>(
         alloc: Global,
         config: &Config,
