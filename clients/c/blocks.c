@@ -151,9 +151,18 @@ void heap_begin(struct heap *heap, pthread_mutex_t *lock) {
     *heap = (struct heap){.id = atomic_fetch_add(&last_id, 1) + 1, .lock = lock};
 }
 
-void heap_enter(const struct heap *heap) { owner_here = heap->id; }
+/* The log whose call this thread is in; NULL: no log's. */
+static _Thread_local struct heap *here;
 
-void heap_leave(void) { owner_here = 0; }
+void heap_enter(struct heap *heap) {
+    owner_here = heap->id;
+    here = heap;
+}
+
+void heap_leave(void) {
+    owner_here = 0;
+    here = NULL;
+}
 
 void heap_own_all(const struct heap *heap) { owner_of_all = heap->id; }
 
@@ -167,6 +176,28 @@ struct block *blocks_next(const struct heap *heap, const struct block *from) {
             found = &heap_blocks.all[i];
     pthread_mutex_unlock(&heap_blocks.lock);
     return found;
+}
+
+/* ---- the reserve */
+
+bool heap_make_reserve(struct heap *heap) {
+    if (heap->reserve) return true;
+    void *at = mmap(NULL, HEAP_RESERVE, BOTH, MAP_PRIVATE | MAP_ANONYMOUS, -1, 0);
+    if (at == MAP_FAILED) return false;
+    heap->reserve = at;
+    return true;
+}
+
+void heap_drop_reserve(struct heap *heap) {
+    if (heap->reserve) munmap(heap->reserve, HEAP_RESERVE);
+    heap->reserve = NULL;
+}
+
+/* Whether there was a reserve, which is memory of the system's again. */
+static bool spend_reserve(void) {
+    bool has_reserve = here && here->reserve;
+    if (has_reserve) heap_drop_reserve(here);
+    return has_reserve;
 }
 
 /* ---- figures, tests */
@@ -206,13 +237,20 @@ static struct got got_of(void *at) {
     return (struct got){at != NULL, at ? at : nothing};
 }
 
+static void *alloc_any(size_t size) { return size < HEAP_LARGE ? malloc(size) : heap_alloc(size); }
+
 struct got rattle_alloc(size_t size, size_t align) {
     size_t some = size ? size : align;
-    return got_of(some < HEAP_LARGE ? malloc(some) : heap_alloc(some));
+    void *at = alloc_any(some);
+    if (!at && spend_reserve()) at = alloc_any(some);
+    return got_of(at);
 }
 
 struct got rattle_realloc(void *at, size_t old, size_t size, size_t align) {
-    return got_of(heap_realloc(at, old, size ? size : align));
+    size_t some = size ? size : align;
+    void *to = heap_realloc(at, old, some);
+    if (!to && spend_reserve()) to = heap_realloc(at, old, some);
+    return got_of(to);
 }
 
 void rattle_dealloc(void *at) { heap_free(at); }

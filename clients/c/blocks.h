@@ -15,6 +15,9 @@
 #define HEAP_STEP ((size_t)1 << 18)
 #endif
 
+/* A log's reserve: enough for a block that grows to HEAP_LARGE. */
+enum { HEAP_RESERVE = 1 << 21 };
+
 /* Slots that are reserved at most. */
 enum { BLOCKS_SLOTS = 4096 };
 

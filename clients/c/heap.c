@@ -173,6 +173,7 @@ static void make_up(struct heap_file *file, size_t len) {
 
 void heap_end(struct heap *heap) {
     drop_rest(heap);
+    heap_drop_reserve(heap);
     if (heap->at_random) heap_expect_reads(heap, false);
     heap->id = 0;
 }

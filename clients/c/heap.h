@@ -38,6 +38,7 @@ struct heap {
     pthread_mutex_t *lock; /* keeps others out of the log's blocks; NULL: the caller does */
     bool at_random;
     bool was_opened;
+    void *reserve; /* memory for a change that has begun; NULL: it was spent, or never made */
     struct heap_file rest; /* that was let go before all of it stood behind its block */
     size_t due;            /* bytes that were written since a step was made for it */
 };
@@ -58,8 +59,14 @@ void heap_end(struct heap *heap);
 
 /* What this thread allocates from now on is this log's, which it keeps others out of; or no log's.
  * Blocks that are no log's never have a file behind them. */
-void heap_enter(const struct heap *heap);
+void heap_enter(struct heap *heap);
 void heap_leave(void);
+
+/* A log that finds no memory in the middle of a change may fail. So each log has a reserve: if there is no memory for what the
+ * proved part asks for between `heap_enter` and `heap_leave`, the reserve is given back to the system, which is asked again.
+ * Before a change the reserve is made anew; false if there is no memory for it. */
+bool heap_make_reserve(struct heap *heap);
+void heap_drop_reserve(struct heap *heap);
 
 /* ---- a file, around the calls on it */
 

@@ -33,16 +33,15 @@ struct found {
 static int fail(struct found *found, const char *place, int error) {
     int code = error == ENOMEM ? RAFTLOG_NO_MEMORY : error == EILSEQ ? RAFTLOG_NOT_PLAIN : RAFTLOG_FOLDER;
     const char *cause = error == EILSEQ ? raftlog_code_text(code) : strerror(error);
-    if (found->text_room) snprintf(found->text, found->text_room, "%s%s%s", place ? place : "", place ? ": " : "", cause);
+    if (found->text_room) snprintf(found->text, found->text_room, "%s: %s", place, cause);
     return code;
 }
 
 /* The same at a path from the log's folder. */
 static int fail_at(const raftlog *log, struct found *found, const char *path, int error) {
-    char *place = parts_joined(log->folder, path);
-    int code = fail(found, place, error);
-    free(place);
-    return code;
+    char place[2 * PARTS_PATH_ROOM];
+    snprintf(place, sizeof place, *path ? "%s/%s" : "%s", log->folder, path);
+    return fail(found, place, error);
 }
 
 static void forget(struct found *found) {
@@ -52,18 +51,18 @@ static void forget(struct found *found) {
 
 /* ---- what stands there */
 
-/* Takes the path, if it answers RAFTLOG_OK. */
-static int add_file(struct found *found, char *path, uint64_t size) {
+/* Takes the path; false if there is no memory. */
+static bool add_file(struct found *found, char *path, uint64_t size) {
     if (found->count == found->room) {
         size_t room = found->room ? 2 * found->room : 64;
         struct found_file *files = realloc(found->files, room * sizeof *files);
-        if (!files) return RAFTLOG_NO_MEMORY;
+        if (!files) return false;
         found->files = files;
         found->room = room;
     }
     found->files[found->count++] = (struct found_file){path, size};
     found->size += size;
-    return RAFTLOG_OK;
+    return true;
 }
 
 /* Sixteen digits and what tells the queue, as crates/raft_disk has it. */
@@ -100,12 +99,12 @@ static int find_at(raftlog *log, struct found *found, int in, char *path, const 
     bool is_log = parts_is_log_name(name), is_taken = false;
     struct stat is;
     int code = RAFTLOG_OK;
-    if (!path) return fail(found, NULL, ENOMEM);
+    if (!path) return fail(found, log->folder, ENOMEM);
     if (fstatat(in, name, &is, AT_SYMLINK_NOFOLLOW)) code = is_log ? fail_at(log, found, path, errno) : RAFTLOG_OK;
     else if (S_ISREG(is.st_mode) && is_copy(name)) unlinkat(in, name, 0);
     else if (!is_log) code = S_ISDIR(is.st_mode) ? find_below(log, found, in, path, name) : RAFTLOG_OK;
     else if (!S_ISREG(is.st_mode) || is.st_nlink != 1) code = fail_at(log, found, path, EILSEQ);
-    else is_taken = !(code = add_file(found, path, (uint64_t)is.st_size));
+    else if (!(is_taken = add_file(found, path, (uint64_t)is.st_size))) code = fail_at(log, found, path, ENOMEM);
     if (!is_taken) free(path);
     return code;
 }

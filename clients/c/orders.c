@@ -29,9 +29,8 @@ enum { JOINED = 1 << 14 };
 void parts_let_file_go(raftlog *log) {
     heap_let_go(&log->behind);
     if (log->file >= 0) close(log->file);
-    free(log->path);
     log->file = -1;
-    log->path = NULL;
+    log->path_len = 0;
 }
 
 /* Opens the file at a path from the folder to be changed. */
@@ -43,8 +42,7 @@ static int open_file(raftlog *log, const char *path) {
     log->file = TEMP_FAILURE_RETRY(openat(in, name, O_RDWR | O_NOFOLLOW | O_CLOEXEC));
     int error = log->file < 0 ? errno : 0;
     if (!error) heap_take_up(&log->behind, &log->heap, log->file);
-    if (!error && !(log->path = strdup(path))) error = ENOMEM;
-    log->path_len = error ? 0 : strlen(path);
+    if (!error) log->path_len = strlen(strcpy(log->path, path));
     return error;
 }
 
@@ -161,7 +159,7 @@ static const char *text_of(char *room, const uint8_t *bytes, size_t len) {
 
 /* Whether it changes the file that is open, as most orders do. */
 static inline bool is_of_open(const raftlog *log, const struct order *order) {
-    return order->kind >= WRITE && log->path && order->path_len == log->path_len
+    return order->kind >= WRITE && log->path_len && order->path_len == log->path_len
            && !memcmp(order->path, log->path, log->path_len);
 }
 
@@ -201,9 +199,10 @@ static const char *cause_of(const raftlog *log, int error) {
 }
 
 static void break_at(raftlog *log, const char *doing, const char *path, int error) {
-    char why[300];
+    char why[320];
     snprintf(why, sizeof why, "%s %.100s: %s, in %.140s", doing, path, cause_of(log, error), log->folder);
     parts_break(log, why);
+    if (error == ENOMEM) log->lacks_memory = true;
 }
 
 /* Reads the order at a place, and goes behind it: false where there is none. */
@@ -313,9 +312,9 @@ void parts_leave(void) {
     giving = NULL;
 }
 
-/* Room for as many bytes of orders; false where memory is wanting. */
-static bool has_room(raftlog *log, size_t len) {
+bool parts_make_order_room(raftlog *log, size_t len) {
     size_t room = log->room ? log->room : ORDERS_BEGIN;
+    if (len > SIZE_MAX / 4) return false;
     while (room < log->given + len) room *= 2;
     if (room == log->room) return true;
     uint8_t *orders = realloc(log->orders, room);
@@ -340,9 +339,9 @@ static int obey_ahead(raftlog *log) {
 ssize_t parts_give(int to, const void *order, size_t len) {
     raftlog *log = giving;
     int error = !log || to != PARTS_ORDERS ? EBADF : 0;
-    bool is_long = !error && log->obeys_ahead && log->given + len > ORDERS_GATHERED;
-    if (is_long && log->given) error = obey_ahead(log);
-    if (!error && !has_room(log, len)) error = ENOMEM;
+    bool goes_ahead = !error && log->obeys_ahead && log->given;
+    if (goes_ahead && (log->given + len > ORDERS_GATHERED || !parts_make_order_room(log, len))) error = obey_ahead(log);
+    if (!error && !parts_make_order_room(log, len)) log->lacks_memory = true, error = ENOMEM;
     if (error) return errno = error, -1;
     memcpy(log->orders + log->given, order, len);
     log->given += len;

@@ -40,6 +40,7 @@ void raft_c_must_purge_all_stale(raft_c_handle *);
 void raft_c_purge_expired_files(raft_c_handle *, uint64_t);
 int32_t raft_c_settle(raft_c_handle *, bool);
 int32_t raft_c_span(raft_c_handle *, uint64_t);
+int32_t raft_c_purge_needs(raft_c_handle *);
 int32_t raft_c_get(raft_c_handle *, uint64_t, const uint8_t *, size_t, uint8_t *, size_t,
                    uint64_t *);
 int32_t raft_c_get_entry(raft_c_handle *, uint64_t, uint64_t, uint8_t *, size_t, uint64_t *);
@@ -148,10 +149,11 @@ struct raftlog {
     size_t given, room;   /* their bytes */
     bool obeys_ahead;     /* in a purge: the first orders are carried out before all are given */
     bool is_opening;
+    bool lacks_memory; /* for an order: it can't be given, or not be carried out */
     raftlog_cut *cuts; /* that the opening made; their paths are the log's */
     size_t cut_count, cut_room;
-    char *path; /* of the file that is open to be changed, from the folder; NULL: none is */
-    size_t path_len;
+    char path[PARTS_PATH_ROOM]; /* of the file that is open to be changed, from the folder */
+    size_t path_len;            /* 0: none is */
     int file;
     struct heap heap;        /* the blocks that the proved part keeps the files in */
     struct heap_file behind; /* the open file, for its block */
@@ -234,6 +236,9 @@ enum { PARTS_ORDERS = INT_MAX };
 /* What the proved part calls in place of `write`: takes an order of the log whose call this is. Of
  * a purge that gives many the first ones are carried out here. */
 ssize_t parts_give(int to, const void *order, size_t len);
+
+/* Makes room for so many bytes of orders more; false if there is no memory. */
+bool parts_make_order_room(raftlog *log, size_t len);
 
 /* Carries out the orders that were given, up to the first that fails, which `broken` then tells:
  * 0, or an error. */

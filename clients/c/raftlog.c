@@ -69,6 +69,26 @@ static raftlog *new_log(void) {
     return NULL;
 }
 
+/* `folder` is NULL for a log in memory. */
+static int tell_no_memory(const char *folder, char *text, size_t room) {
+    const char *why = raftlog_code_text(RAFTLOG_NO_MEMORY);
+    if (room) snprintf(text, room, folder ? "%s: %s" : "%s%s", folder ? folder : "", why);
+    return RAFTLOG_NO_MEMORY;
+}
+
+/* Why an opening over what was found failed. */
+static void tell_refused(raftlog *log, int code, char *text, size_t room) {
+    if (code == RAFTLOG_CORRUPTION && log->folder) {
+        parts_tell_damage(log, text, room);
+    } else if (code == RAFTLOG_NO_MEMORY) {
+        tell_no_memory(log->folder, text, room);
+    } else {
+        char *said = *log->broken ? NULL : parts_answered_text(log);
+        parts_put_text(said ? said : *log->broken ? log->broken : raftlog_code_text(code), text, room);
+        free(said);
+    }
+}
+
 /* Opens the log over what was found: a code, and for a failure its text. */
 static int open_found(raftlog *log, const char *settings, char *text, size_t room) {
     if (!settings) settings = "";
@@ -79,11 +99,9 @@ static int open_found(raftlog *log, const char *settings, char *text, size_t roo
     int code = raft_c_settle(&log->handle, !parts_obey(log));
     parts_leave();
     log->is_opening = false;
-    if (!code) return RAFTLOG_OK;
-    if (code == RAFTLOG_CORRUPTION && log->folder && room) return parts_tell_damage(log, text, room), code;
-    char *said = *log->broken ? NULL : parts_answered_text(log);
-    parts_put_text(said ? said : *log->broken ? log->broken : raftlog_code_text(code), text, room);
-    free(said);
+    /* An order for which there is no memory fails as a file call does. */
+    if (code == RAFTLOG_IO && log->lacks_memory) code = RAFTLOG_NO_MEMORY;
+    if (code && room) tell_refused(log, code, text, room);
     return code;
 }
 
@@ -107,12 +125,12 @@ static int open_log(const char *folder, struct opening opening, raftlog **out, c
     if (!text) room = 0;
     if (room) text[0] = 0;
     raftlog *log = new_log();
-    if (!log) return parts_put_text(raftlog_code_text(RAFTLOG_NO_MEMORY), text, room), RAFTLOG_NO_MEMORY;
+    if (!log) return tell_no_memory(folder, text, room);
     log->watch = opening.watch;
     log->watch_with = opening.with;
     int code =
         folder && !(log->folder = strdup(folder)) ? RAFTLOG_NO_MEMORY : raft_c_begin(&log->handle);
-    if (code) return parts_put_text(raftlog_code_text(code), text, room), let_go(log), code;
+    if (code) return let_go(log), tell_no_memory(folder, text, room);
     int was;
     pthread_setcancelstate(PTHREAD_CANCEL_DISABLE, &was);
     parts_add_open(log);
@@ -159,8 +177,8 @@ int raftlog_accept_missing(const char *folder, char *text, size_t room) {
     int was;
     pthread_setcancelstate(PTHREAD_CANCEL_DISABLE, &was);
     raftlog *log = new_log();
-    int code = !log || !(log->folder = strdup(folder)) ? RAFTLOG_NO_MEMORY : parts_accept(log, text, room);
-    if (code && room && !*text) parts_put_text(raftlog_code_text(code), text, room);
+    bool has_memory = log && (log->folder = strdup(folder));
+    int code = has_memory ? parts_accept(log, text, room) : tell_no_memory(folder, text, room);
     if (log) let_go(log);
     pthread_setcancelstate(was, NULL);
     return code;
@@ -412,4 +430,57 @@ int raftlog_groups(raftlog *log, raftlog_bytes *groups) {
     if (code) return code;
     code = raft_c_groups(&log->handle, groups->data, groups->room, &len);
     return end_bytes(log, code, groups, len, log->handed);
+}
+
+/* ---- a purge in short calls */
+
+/* What a purge by thresholds would rewrite now. */
+struct needs {
+    uint64_t watermark; /* the last file of the Append queue; 0: none */
+    uint64_t rewrite;   /* 1: the Rewrite queue */
+};
+
+static int purge_needs(raftlog *log, struct needs *needs) {
+    int code = begin(log);
+    if (code) return code;
+    code = raft_c_purge_needs(&log->handle);
+    if (code == RAFTLOG_OK) raft_c_numbers(&log->handle, &needs->watermark, &needs->rewrite);
+    return end(log, code, 0);
+}
+
+int raftlog_append_rewrite_watermark(raftlog *log, uint64_t *watermark) {
+    struct needs needs;
+    if (!log || !watermark) return refuse(log, RAFTLOG_INVALID);
+    int code = purge_needs(log, &needs);
+    if (code) return code;
+    *watermark = needs.watermark;
+    return needs.watermark ? RAFTLOG_OK : RAFTLOG_ABSENT;
+}
+
+/* Rewrites what the Append queue has up to a file. */
+static int rewrite_append_shortly(raftlog *log, uint64_t watermark, uint64_t budget) {
+    uint64_t group = 0;
+    int code;
+    do code = raftlog_must_rewrite_append_groups(log, &watermark, &group, budget);
+    while (!code && group);
+    return code;
+}
+
+static int rewrite_rewrite_shortly(raftlog *log, uint64_t budget) {
+    uint64_t group = 0;
+    int code;
+    do code = raftlog_must_rewrite_rewrite_groups(log, &group, budget);
+    while (!code && group);
+    return code;
+}
+
+/* The Rewrite queue comes first, since a call on the Append queue ends a series on it. The last call drops the files. */
+int raftlog_purge_in_short_calls(raftlog *log, uint64_t budget, raftlog_bytes *groups) {
+    struct needs needs;
+    if (!log) return RAFTLOG_INVALID;
+    if (groups) groups->len = 0;
+    int code = purge_needs(log, &needs);
+    if (!code && needs.rewrite) code = rewrite_rewrite_shortly(log, budget);
+    if (!code && needs.watermark) code = rewrite_append_shortly(log, needs.watermark, budget);
+    return code ? code : raftlog_purge_expired_files(log, groups);
 }

@@ -57,8 +57,8 @@
  *   But calls enter the log itself in turn. There a read of any group waits for a read of entries that are not in
  * memory, and for a purge until it has moved all that it moves. A purge reads cold entries from the disk; its writes,
  * except the last RAFTLOG_PURGE_BYTES, are carried out meanwhile. `raftlog_must_rewrite_append_queue` lets reads in
- * after each RAFTLOG_MOVED_BYTES, or after a group that has more. `raftlog_must_rewrite_append_groups` and
- * `raftlog_must_rewrite_rewrite_groups` let in writes too.
+ * after each RAFTLOG_MOVED_BYTES, or after a group that has more. `raftlog_purge_in_short_calls` lets in reads and writes
+ * after each budget, and so do your own series of short calls.
  *
  * Proved, for the functions below these (crates/raft_c): for each code, what the log has done and its contents then,
  * and for a failure its cause. Proved too: at each moment inside a call a crash leaves all that was synced before. The
@@ -108,8 +108,9 @@ enum {
     RAFTLOG_NOT_AN_ENTRY = 10,
     /* The log failed before: close it, and open its folder again. */
     RAFTLOG_FAILED = 11,
-    /* No memory. A change may have failed the log: then the next call fails as RAFTLOG_FAILED, and the next opening
-     * finds the change or not, as after RAFTLOG_IO. Otherwise the log is as it was. */
+    /* No memory. Each log keeps 2 MB for a change that has begun. If a change needed more at once, it may have failed
+     * the log: then the next call fails as RAFTLOG_FAILED, and the next opening finds the change or not, as after
+     * RAFTLOG_IO. Otherwise the log is as it was. */
     RAFTLOG_NO_MEMORY = 12,
     /* The log has a compressed record, which cannot be read. */
     RAFTLOG_LZ4 = 13,
@@ -121,7 +122,7 @@ enum {
     RAFTLOG_IN_USE = 30,
     /* A log file's name in the folder is that of a link, a device or a file with several names, or LOCK is a device. */
     RAFTLOG_NOT_PLAIN = 31,
-    /* The folder cannot be made, locked or read. */
+    /* The folder, or its note SPANS, cannot be made, locked or read. */
     RAFTLOG_FOLDER = 32,
     /* A log file is missing or was, or does not follow on the others (`raftlog_open_whole`). The text names one that is
      * missing or does not follow. */
@@ -224,9 +225,10 @@ typedef struct {
 
 /* Returns how many such facts the opening found, and stores the first of them, at most `room`, in `lost`, which may be
  * NULL if `room` is 0. `size` is sizeof(raftlog_lost), as for `raftlog_stats`. After a crash or a kill there are none.
- * Later openings report them too, until the files are put back, the note is stale, or the note is gone: accepted, or
- * removed by a write that could make no new one. Without a note nothing is reported, and nothing if the settings have
- * `spill-dir` in another form than a line `spill-dir = "PATH"`. */
+ * Later openings report them too, until the files are put back or the loss is accepted. A loss is forgotten if a write
+ * could neither replace the note nor, later, make a new one. So is a missing file whose number no other file got, if
+ * another program makes the note stale. Without a note nothing is reported, and nothing if the settings have `spill-dir`
+ * in another form than a line `spill-dir = "PATH"`. */
 size_t raftlog_missing(raftlog *log, raftlog_lost *lost, size_t room, size_t size);
 
 /* As `raftlog_open`, but fails as RAFTLOG_LOST if a file is missing or was, or is a stray, as `raftlog_missing` knows
@@ -255,8 +257,8 @@ enum { RAFTLOG_TIMES = 24 };
 
 /* What a log has done since it was opened, in rounds that are over. On average changes / rounds changes share a round,
  * and a sync takes sync_ns / syncs. A purge and a next file have syncs of their own; without these synced_changes /
- * syncs changes share a sync. The files that are kept for reuse are not counted. A later version may add numbers at the
- * end. */
+ * syncs changes share a sync. Calls of the system that failed are not counted, nor are the files that are kept for
+ * reuse. A later version may add numbers at the end. */
 typedef struct {
     uint64_t rounds;
     uint64_t changes;        /* writes, syncs, compactions and purges in these rounds */
@@ -294,8 +296,9 @@ const char *raftlog_code_text(int code);
 /* ---- memory
  *
  * The index is in memory: 40 bytes an entry, and keys with their values. So is what was written since the last sync,
- * and during a purge twice RAFTLOG_PURGE_BYTES, and at most 8 KB for each item of a record. The rest of the log files is
- * mapped: the system takes that memory back when it needs it, and reads it again from the files on demand. */
+ * and during a purge twice RAFTLOG_PURGE_BYTES, and at most 8 KB for each item of a record. 2 MB are kept for a change that
+ * has begun, and not touched before they are needed. The rest of the log files is mapped: the system takes that memory back
+ * when it needs it, and reads it again from the files on demand. */
 
 /* By default the program ends by SIGBUS if a part of a file cannot be read again: the disk fails, or another program
  * cut the file. After this call, once for the process, a read that needs this part fails as RAFTLOG_CORRUPTION, and so
@@ -375,6 +378,14 @@ int raftlog_compact_to(raftlog *log, uint64_t group, uint64_t index, uint64_t *c
  * nothing while the log is small. It stores the groups that have old entries and should be compacted, for
  * `raftlog_next_group` (`groups` may be NULL). */
 int raftlog_purge_expired_files(raftlog *log, raftlog_bytes *groups);
+/* The same in short calls, between which other threads read and write. Each call writes again what some groups have in old
+ * files: at most `budget` bytes, or one group that has more. 1 MB is a good budget. The last call drops the files. One thing
+ * differs: `raftlog_purge_expired_files` returns a group with many old entries, and writes these again only in the tenth
+ * purge; this call returns the group too, but writes them again at once. After a failure the calls before it are done. */
+int raftlog_purge_in_short_calls(raftlog *log, uint64_t budget, raftlog_bytes *groups);
+/* The number of the last file of the Append queue that both calls above would write again now, or RAFTLOG_ABSENT if they
+ * would write none. It is the watermark for your own series of `raftlog_must_rewrite_append_groups`. */
+int raftlog_append_rewrite_watermark(raftlog *log, uint64_t *watermark);
 /* Whatever the size. Each stores how many files of a queue were dropped (`count` may be NULL). The first writes what
  * the Append queue's files contain to the Rewrite queue, and drops these files. The second writes what the Rewrite
  * queue's files contain to a new one, and drops these files. The third drops the first files of both queues that

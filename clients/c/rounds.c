@@ -15,6 +15,9 @@
 #define ROUNDS_MOVED RAFTLOG_MOVED_BYTES
 #endif
 
+/* Room for the orders of a change besides the bytes of its batch: a record's ends, and those of a next file. */
+enum { ORDERS_BESIDE = 1 << 15 };
+
 enum { WAITS, LEADS, IS_ANSWERED };
 
 /* Whoever comes behind this finds a closed log. */
@@ -207,6 +210,17 @@ static void hand_over(raftlog *log, struct parts_change *change, bool sync) {
     pthread_mutex_unlock(&log->lock);
 }
 
+/* Makes the reserve, and room for the change's orders and its round's sync, before anything is done, or refuses the change. A
+ * purge gives its orders in parts, and makes its own room. */
+static bool has_room_for(raftlog *log, struct parts_change *change) {
+    if (change->kind == PARTS_CLOSE) return true;
+    bool gives_parts = !log->folder || parts_is_purge(change);
+    bool has_room = heap_make_reserve(&log->heap)
+                    && (gives_parts || parts_make_order_room(log, size_of(change) + ORDERS_BESIDE));
+    if (!has_room) change->code = RAFTLOG_NO_MEMORY;
+    return has_room;
+}
+
 static void fail(struct parts_change *change, int code, const char *text) {
     free(change->text);
     change->code = code;
@@ -244,7 +258,7 @@ static inline void note_done(struct round *round, const struct parts_change *cha
 static void carry_out_many(raftlog *log, struct round *round) {
     for (struct parts_change *at = round->first;; at = at->newer) {
         /* A sync is the round's own. */
-        if (at->kind != PARTS_SYNC) hand_over(log, at, false);
+        if (has_room_for(log, at) && at->kind != PARTS_SYNC) hand_over(log, at, false);
         note_done(round, at);
         if (at == round->last && !(round->synced && take_more(log, round))) break;
     }
@@ -255,6 +269,7 @@ static void carry_out_many(raftlog *log, struct round *round) {
 /* Hands a change over that is a round of its own, and carries its orders out: false where one fails,
  * which fails the log. */
 static bool carry_out_one(raftlog *log, struct parts_change *change) {
+    if (!has_room_for(log, change)) return true;
     hand_over(log, change, change->sync);
     if (parts_obey(log)) return false;
     if (parts_is_purge(change)) heap_catch_up(&log->heap, &log->behind);

@@ -294,46 +294,6 @@ static void *put_aside(void *of) {
     return NULL;
 }
 
-/* A purge in short calls, one for each group that is put aside, while another thread writes */
-static void short_purges(raftlog *log) {
-    struct aside first = {log, 0}, meanwhile = {log, 500};
-    pthread_t writer;
-    raftlog_bytes bytes = {0};
-    raftlog_slice key, value;
-    uint64_t watermark = UINT64_MAX, group = 0, before, last, count;
-    int purges = 0, pairs = 0;
-    put_aside(&first);
-    CHECK(!pthread_create(&writer, NULL, put_aside, &meanwhile));
-    do {
-        before = group, last = watermark;
-        CHECK(raftlog_must_rewrite_append_groups(log, &watermark, &group, 25000) == 0);
-        CHECK((!group || group > before) && (!purges++ || watermark == last));
-    } while (group);
-    pthread_join(writer, NULL);
-    CHECK(purges >= 20 && watermark != UINT64_MAX);
-    CHECK(raftlog_must_purge_all_stale(log, &count) == 0 && count >= 1);
-    for (group = 50; group < 70; group++) {
-        size_t at = 0;
-        CHECK(raftlog_scan(log, group, NULL, NULL, false, 0, &bytes) == 0);
-        while (raftlog_next_pair(&bytes, &at, &key, &value)) pairs += value.len == 1000;
-    }
-    CHECK(pairs == 1000);
-    group = 0, purges = 0;
-    do {
-        before = group;
-        CHECK(raftlog_must_rewrite_rewrite_groups(log, &group, 25000) == 0 && (!group || group > before));
-        purges++;
-    } while (group);
-    CHECK(purges >= 20);
-    CHECK(raftlog_must_rewrite_rewrite_groups(log, NULL, 0) == RAFTLOG_INVALID);
-    CHECK(raftlog_must_rewrite_rewrite_groups(NULL, &group, 0) == RAFTLOG_INVALID);
-    group = 3;
-    CHECK(raftlog_must_rewrite_append_groups(log, NULL, &group, 0) == RAFTLOG_INVALID && group == 3);
-    CHECK(raftlog_must_rewrite_append_groups(log, &watermark, NULL, 0) == RAFTLOG_INVALID);
-    CHECK(raftlog_must_rewrite_append_groups(NULL, &watermark, &group, 0) == RAFTLOG_INVALID);
-    raftlog_bytes_free(&bytes);
-}
-
 static void calls(raftlog *log) {
     keys(log);
     scans(log);
@@ -342,7 +302,6 @@ static void calls(raftlog *log) {
     groups(log);
     bad_arguments(log);
     once(log);
-    short_purges(log);
 }
 
 static uint64_t files_in(const char *folder) {

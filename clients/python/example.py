@@ -29,5 +29,5 @@ with Engine(folder) as log:
 
     log.compact_to(group, snapshot + 1)                                              # drop what the snapshot has
 
-    for group in log.purge_expired_files():                                          # now and then: free log files
+    for group in log.purge_in_short_calls():                                         # now and then: free log files
         log.compact_to(group, make_snapshot(group) + 1)                              # groups that keep old files

@@ -7,7 +7,7 @@ import (
 	pb "go.etcd.io/etcd/raft/raftpb"
 )
 
-// A Change is what one Ready of a group has to be kept; what is empty in it stays as it is.
+// A Change has what a Ready of a group asks to save. What is empty in it stays as it is.
 type Change struct {
 	Storage  *Storage
 	State    pb.HardState
@@ -15,8 +15,9 @@ type Change struct {
 	Snapshot pb.Snapshot
 }
 
-// SaveAll writes the changes of groups of one log, each of them at most once, as one batch, with
-// one sync where that is asked for. After an error none of them is kept.
+// SaveAll writes the changes of groups of one log as one batch, with one sync if requested. A group
+// has at most one change. After an error the storages are as before; after raftlog.IO, and after a
+// raftlog.NoMemory that failed the log, the next opening finds all of the changes or none.
 func SaveAll(log *raftlog.Engine, changes []Change, sync bool) error {
 	var batch raftlog.Batch
 	for i := range changes {
@@ -69,7 +70,7 @@ func (c *Change) addTo(batch *raftlog.Batch) error {
 	return nil
 }
 
-// note takes over what was written.
+// note updates the storage in memory after the change was written.
 func (c *Change) note() {
 	s := c.Storage
 	s.mutex.Lock()
@@ -86,7 +87,7 @@ func (c *Change) note() {
 // The span of a group's entries, and the last ones of them, which raft reads most: a read of the
 // log copies bytes and decodes them.
 type tail struct {
-	// The first and the last index; the last is below the first where there are no entries.
+	// The first and the last index; the last is below the first if there are no entries.
 	first, last uint64
 	// The last of the entries, without a gap.
 	entries []pb.Entry
@@ -96,7 +97,7 @@ type tail struct {
 // How many bytes of entries a tail keeps at most, with the last batch above it.
 var tailSize = 1 << 20
 
-// add puts entries behind those below them; those that stood from there on are replaced.
+// add appends entries, and replaces those from the first one's index on.
 func (t *tail) add(entries []pb.Entry) {
 	next := entries[0].Index
 	if t.last < t.first || next < t.first {
@@ -113,7 +114,7 @@ func (t *tail) add(entries []pb.Entry) {
 	t.last = entries[len(entries)-1].Index
 }
 
-// below answers the kept entries before an index, and counts their bytes alone.
+// below returns the kept entries before an index, and counts the bytes of these alone.
 func (t *tail) below(index uint64) []pb.Entry {
 	count := len(t.entries)
 	for count > 0 && t.entries[count-1].Index >= index {
@@ -126,8 +127,8 @@ func (t *tail) below(index uint64) []pb.Entry {
 	return t.entries[:count]
 }
 
-// shortened copies entries, since a reader may hold those behind them, and leaves the first half of
-// them out where they are many.
+// shortened copies entries, since a reader may hold the list, without the first half if they are
+// many.
 func (t *tail) shortened(kept []pb.Entry) []pb.Entry {
 	if t.size > tailSize {
 		half := len(kept) / 2
@@ -139,7 +140,7 @@ func (t *tail) shortened(kept []pb.Entry) []pb.Entry {
 	return append([]pb.Entry(nil), kept...)
 }
 
-// from answers the entries from lo to the one before hi, if all of them are kept.
+// from returns the entries from lo to the one before hi, if all of them are kept.
 func (t *tail) from(lo, hi uint64) ([]pb.Entry, bool) {
 	if len(t.entries) == 0 || lo < t.entries[0].Index {
 		return nil, false
@@ -149,7 +150,7 @@ func (t *tail) from(lo, hi uint64) ([]pb.Entry, bool) {
 	return t.entries[at:end:end], true
 }
 
-// compact drops what stands below an index.
+// compact drops the entries below an index.
 func (t *tail) compact(first uint64) {
 	if first <= t.first {
 		return

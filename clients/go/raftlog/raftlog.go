@@ -2,17 +2,8 @@
 // clients/c/build/libraftlog.a of the checkout, or with the build tag raftlog_installed the installed one, by pkg-config.
 package raftlog
 
-// #include <stdlib.h>
-// #include <raftlog.h>
+// #include "told.h"
 //
-// // A failure's text is that of a thread, which a goroutine may leave after a call: so each call brings
-// // the text along, which is freed by free.
-// static int told(raftlog *log, int code, char **text) {
-//     if (code == RAFTLOG_OK || code == RAFTLOG_ABSENT) return code;
-//     size_t room = raftlog_message(log, NULL, 0) + 1;
-//     if ((*text = malloc(room))) raftlog_message(log, *text, room);
-//     return code;
-// }
 // static int write_bytes(raftlog *log, const void *bytes, size_t len, bool sync, char **text) {
 //     return told(log, raftlog_write_bytes(log, bytes, len, sync), text);
 // }
@@ -39,24 +30,6 @@ package raftlog
 // static int compact_to(raftlog *log, uint64_t group, uint64_t index, uint64_t *count, char **text) {
 //     return told(log, raftlog_compact_to(log, group, index, count), text);
 // }
-// static int purge_expired_files(raftlog *log, raftlog_bytes *out, char **text) {
-//     return told(log, raftlog_purge_expired_files(log, out), text);
-// }
-// static int must_rewrite_append_queue(raftlog *log, uint64_t *count, char **text) {
-//     return told(log, raftlog_must_rewrite_append_queue(log, count), text);
-// }
-// static int must_rewrite_append_groups(raftlog *log, uint64_t *watermark, uint64_t *group, uint64_t budget, char **text) {
-//     return told(log, raftlog_must_rewrite_append_groups(log, watermark, group, budget), text);
-// }
-// static int must_rewrite_rewrite_groups(raftlog *log, uint64_t *group, uint64_t budget, char **text) {
-//     return told(log, raftlog_must_rewrite_rewrite_groups(log, group, budget), text);
-// }
-// static int must_rewrite_rewrite_queue(raftlog *log, uint64_t *count, char **text) {
-//     return told(log, raftlog_must_rewrite_rewrite_queue(log, count), text);
-// }
-// static int must_purge_all_stale(raftlog *log, uint64_t *count, char **text) {
-//     return told(log, raftlog_must_purge_all_stale(log, count), text);
-// }
 // static int scan(raftlog *log, uint64_t group, const raftlog_slice *start, const raftlog_slice *end,
 //                 bool reverse, uint64_t limit, raftlog_bytes *out, char **text) {
 //     return told(log, raftlog_scan(log, group, start, end, reverse, limit, out), text);
@@ -68,6 +41,7 @@ import "C"
 
 import (
 	"encoding/binary"
+	"errors"
 	"fmt"
 	"runtime"
 	"sync"
@@ -75,31 +49,32 @@ import (
 	"unsafe"
 )
 
-// A Code says why a call failed.
+// A Code says why a call failed. GO.md, "Errors", says what to do.
 type Code int
 
 const (
-	Invalid    Code = 1
-	Corruption Code = 2
-	IO         Code = 3
-	TryAgain   Code = 4
-	Gap        Code = 5
-	Range      Code = 6
-	Compacted  Code = 7
-	NoEntry    Code = 8
-	WrongIndex Code = 9
-	NotAnEntry Code = 10
-	Failed     Code = 11
-	NoMemory   Code = 12
-	Stale      Code = 18
+	Invalid    Code = 1  // an argument, a setting or a key is refused; nothing was changed
+	Corruption Code = 2  // a log file can't be read, and the recovery mode doesn't tolerate it: raftctl FOLDER check
+	IO         Code = 3  // a file call failed; after a change the log has failed
+	TryAgain   Code = 4  // no space: a write can be made again, after a purge the log has failed (in a folder it is IO)
+	Gap        Code = 5  // the entries don't follow those of their group; nothing was changed
+	Range      Code = 6  // an index of 2^64 - 1, a record that is too long, or no number left for a next file
+	Compacted  Code = 7  // a fetch begins before the group's first entry
+	NoEntry    Code = 8  // a fetch ends after the group's last entry
+	WrongIndex Code = 9  // the stored bytes are the entry of another index
+	NotAnEntry Code = 10 // the stored bytes are too short for an entry
+	Failed     Code = 11 // the log failed in an earlier call: close it, and open its folder again
+	NoMemory   Code = 12 // out of memory; after a change the log may have failed
+	LZ4        Code = 13 // the log has a compressed record, which can't be read
+	Stale      Code = 18 // some numbers of a WriteOnce are greater than those that their groups keep, and others aren't
 	absent     Code = 20
-	InUse      Code = 30
-	NotPlain   Code = 31
-	Folder     Code = 32
-	Lost       Code = 33
+	InUse      Code = 30 // the folder is open already; the message names the process
+	NotPlain   Code = 31 // a log file's name belongs to a link, a device or a file with several names
+	Folder     Code = 32 // the folder can't be made, locked or read
+	Lost       Code = 33 // a log file is missing or was, or isn't the log's (OpenWhole)
 )
 
-// An Error is a failure, with its text.
+// An Error is the failure of a call. Its message names the file and the system's cause, if a file call failed.
 type Error struct {
 	Code    Code
 	Message string
@@ -107,10 +82,10 @@ type Error struct {
 
 func (e *Error) Error() string { return "raftlog: " + e.Message }
 
-// HasCode says whether the error is one of this package, with this code.
+// HasCode says whether the error is one of this package with this code, or wraps one.
 func HasCode(err error, code Code) bool {
-	e, ok := err.(*Error)
-	return ok && e.Code == code
+	var e *Error
+	return errors.As(err, &e) && e.Code == code
 }
 
 // An Entry is an index and its bytes.
@@ -122,15 +97,15 @@ type Entry struct {
 // A Pair is a key and its value.
 type Pair struct{ Key, Value []byte }
 
-// An Engine is an open log. It may be used by many goroutines: writers that come at once share a sync,
-// and of these a read waits only for those that change its group (raftlog.h, "Rounds").
+// An Engine is an open log. Many goroutines may use it. Goroutines that write at the same time share a sync, and a read
+// waits only for writes to its group (raftlog.h, "Rounds").
 type Engine struct {
 	mutex sync.RWMutex // held by each call to read, and by Close to write
 	log   *C.raftlog
 }
 
-// Open opens the log in a folder, which is made where it is missing. The settings are TOML, as
-// `target-file-size = "64MB"`; those that aren't named are the defaults.
+// Open opens the log in a folder; a missing folder is made. The settings are TOML, for example
+// `target-file-size = "64MB"`. Each that isn't given has its default, and so have all for "".
 func Open(folder, settings string) (*Engine, error) {
 	path := C.CString(folder)
 	defer C.free(unsafe.Pointer(path))
@@ -139,7 +114,7 @@ func Open(folder, settings string) (*Engine, error) {
 	})
 }
 
-// OpenMemory makes a log in memory, for tests.
+// OpenMemory opens a log in memory, for tests.
 func OpenMemory(settings string) (*Engine, error) {
 	return open(settings, func(settings *C.char, out **C.raftlog, text *C.char, room C.size_t) C.int {
 		return C.raftlog_open_memory(settings, out, text, room)
@@ -161,7 +136,7 @@ func open(settings string, call func(*C.char, **C.raftlog, *C.char, C.size_t) C.
 	return &Engine{log: log}, nil
 }
 
-// A call is what C writes its answers to. It is kept for a next one, with the room that C made.
+// A call has what C writes its results to. It is kept for a next call, with the memory that C reserved.
 type call struct {
 	bytes C.raftlog_bytes
 	text  *C.char
@@ -175,7 +150,7 @@ var calls = sync.Pool{New: func() any {
 	return c
 }}
 
-// do makes a call on the log: whether what was asked for is there. The call is let go by end.
+// do makes a call on the log, and returns whether the requested value exists. The caller ends the call by end.
 func (e *Engine) do(code func(log *C.raftlog, c *call) C.int) (*call, bool, error) {
 	c := calls.Get().(*call)
 	e.mutex.RLock()
@@ -203,8 +178,12 @@ func (c *call) failure(code C.int) error {
 	return &Error{Code(code), C.GoString(c.text)}
 }
 
-// answer copies the bytes that were answered.
-func (c *call) answer() []byte { return C.GoBytes(unsafe.Pointer(c.bytes.data), C.int(c.bytes.len)) }
+// answer returns a copy of the result's bytes.
+func (c *call) answer() []byte {
+	copied := make([]byte, c.bytes.len)
+	copy(copied, unsafe.Slice((*byte)(c.bytes.data), c.bytes.len))
+	return copied
+}
 
 var empty = [1]byte{}
 
@@ -215,7 +194,8 @@ func pointer(bytes []byte) unsafe.Pointer {
 	return unsafe.Pointer(&bytes[0])
 }
 
-// Close syncs and closes, once the calls that run are answered. It may be called again.
+// Close waits until the calls that run have returned, then syncs and closes. Without an error all that was written survives a
+// crash. It may be called again.
 func (e *Engine) Close() error {
 	e.mutex.Lock()
 	defer e.mutex.Unlock()
@@ -230,7 +210,8 @@ func (e *Engine) Close() error {
 	return nil
 }
 
-// Write writes a batch, and empties it where that was done. With sync it survives a crash then.
+// Write writes a batch, and empties it if that is done; else the batch is as it was. With sync the batch survives a crash when
+// Write has returned, with all that was written before it; without sync it does after the next sync.
 func (e *Engine) Write(batch *Batch, sync bool) error {
 	bytes := batch.whole()
 	c, _, err := e.do(func(log *C.raftlog, c *call) C.int {
@@ -246,9 +227,10 @@ func (e *Engine) Write(batch *Batch, sync bool) error {
 // A Number is a group, and the number of a write that acts on it once.
 type Number struct{ Group, Number uint64 }
 
-// WriteOnce writes a batch that acts once, however often it is written: with it each of these groups takes its number. Each
-// number has to be greater than the one that its group keeps; where none is, nothing is written. It fails as Stale where
-// some are and others aren't.
+// WriteOnce writes a batch that acts once, however often it is written. With it each of these groups gets its number. Each
+// number must be greater than the one that its group keeps; a group that keeps none counts as 0. If none of the numbers is
+// greater, the batch was written before: nothing is written, and there is no error. If some are greater and others aren't,
+// it fails as Stale.
 func (e *Engine) WriteOnce(batch *Batch, numbers []Number, sync bool) error {
 	groups, values := make([]C.uint64_t, len(numbers)+1), make([]C.uint64_t, len(numbers)+1)
 	for i, n := range numbers {
@@ -266,47 +248,47 @@ func (e *Engine) WriteOnce(batch *Batch, numbers []Number, sync bool) error {
 	return err
 }
 
-// Sync makes all that was written survive a crash.
+// Sync syncs: after it all that was written survives a crash.
 func (e *Engine) Sync() error {
 	c, _, err := e.do(func(log *C.raftlog, c *call) C.int { return C.sync_all(log, &c.text) })
 	defer c.end()
 	return err
 }
 
-// Stats is what a log did since it was opened, in rounds that are over. The mean number of changes that share a round is
-// Changes / Rounds, and a sync takes SyncTime / Syncs. Where nothing is purged, and no file is full, SyncedChanges / Syncs
-// share a sync.
+// Stats is what a log has done since it was opened, in rounds that are over. On average Changes / Rounds changes share a
+// round, and a sync takes SyncTime / Syncs. A purge and a next file have syncs of their own; without these
+// SyncedChanges / Syncs changes share a sync.
 type Stats struct {
 	Rounds        uint64
-	Changes       uint64        // in them: writes, syncs, compactions, purges
-	SyncedChanges uint64        // of these, those that asked for a sync and were done
+	Changes       uint64        // writes, syncs, compactions and purges in these rounds
+	SyncedChanges uint64        // changes that asked for a sync and were done
 	LargestRound  uint64        // the most changes of a round
-	Syncs         uint64        // of log files, whoever asked for them
-	Bytes         uint64        // that were written to log files
-	SyncTime      time.Duration // that these syncs took
-	Batches       uint64        // of the changes, writes that were done
+	Syncs         uint64        // syncs of log files, whoever asked for them
+	Bytes         uint64        // bytes written to log files
+	SyncTime      time.Duration // time of these syncs
+	Batches       uint64        // writes that were done
 	Writes        uint64        // calls of the system that wrote these bytes
 	LongestSync   time.Duration
-	SyncTimes     [SyncClasses]uint64 // syncs by classes: those under SyncBound(i), and not under the one before
-	NextFiles     uint64              // that a queue went on to
-	RecycledFiles uint64              // of these, those that were dropped or reserved files before
+	SyncTimes     [SyncClasses]uint64 // syncs by classes: class i has those under SyncBound(i) that class i-1 hasn't
+	NextFiles     uint64              // files that a queue has begun
+	RecycledFiles uint64              // of these, files that were dropped or reserved before
 	DeletedFiles  uint64
-	Purges        uint64        // calls that were carried out, a short one too
-	PurgeTime     time.Duration // that these took, without their wait for a turn
+	Purges        uint64        // purge calls that were carried out, each short call too
+	PurgeTime     time.Duration // time of these calls, without their wait for a round
 	LongestPurge  time.Duration
-	Files         uint64 // that the folder has now, reserved ones too; 0 in memory
+	Files         uint64 // files in the folder now, reserved ones too; 0 in memory
 	IndexBytes    uint64 // memory of the index now, without the bytes of keys and values
-	BlockHits     uint64 // reads of an entry whose block was kept; the last 16 are
+	BlockHits     uint64 // reads of an entry whose block was kept; the last 16 blocks are kept
 	BlockMisses   uint64 // reads of an entry that had to read its block
 }
 
 // SyncClasses is how many classes of times Stats.SyncTimes has.
 const SyncClasses = C.RAFTLOG_TIMES
 
-// SyncBound is the time under which the syncs of a class and of those before it took; the last class has no bound.
+// SyncBound returns the time under which a class of syncs stays; the last class has no bound.
 func SyncBound(class int) time.Duration { return time.Microsecond << class }
 
-// Stats tells what the log did.
+// Stats returns what the log has done since it was opened.
 func (e *Engine) Stats() (Stats, error) {
 	e.mutex.RLock()
 	defer e.mutex.RUnlock()
@@ -357,7 +339,7 @@ func (e *Engine) Cuts() ([]Cut, error) {
 	return cuts, nil
 }
 
-// Get finds the value at a key.
+// Get returns the value that a group has at a key.
 func (e *Engine) Get(group uint64, key []byte) (value []byte, found bool, err error) {
 	c, found, err := e.do(func(log *C.raftlog, c *call) C.int {
 		return C.get(log, C.uint64_t(group), pointer(key), C.size_t(len(key)), &c.bytes, &c.text)
@@ -369,7 +351,7 @@ func (e *Engine) Get(group uint64, key []byte) (value []byte, found bool, err er
 	return value, found, err
 }
 
-// GetEntry finds an entry.
+// GetEntry returns the bytes of a group's entry with an index.
 func (e *Engine) GetEntry(group, index uint64) (data []byte, found bool, err error) {
 	c, found, err := e.do(func(log *C.raftlog, c *call) C.int {
 		return C.get_entry(log, C.uint64_t(group), C.uint64_t(index), &c.bytes, &c.text)
@@ -381,8 +363,8 @@ func (e *Engine) GetEntry(group, index uint64) (data []byte, found bool, err err
 	return data, found, err
 }
 
-// FetchEntries answers the entries from begin up to the one before end: as many as take at most maxSize bytes together,
-// each with 8 more, but one at least; 0 is no bound.
+// FetchEntries returns the entries from begin up to the one before end: as many as take at most maxSize bytes together (each
+// counts 8 bytes more than its own), but one at least. A maxSize of 0 is no bound.
 func (e *Engine) FetchEntries(group, begin, end, maxSize uint64) ([]Entry, error) {
 	c, _, err := e.do(func(log *C.raftlog, c *call) C.int {
 		return C.fetch(log, C.uint64_t(group), C.uint64_t(begin), C.uint64_t(end), C.uint64_t(maxSize), &c.bytes, &c.text)
@@ -405,7 +387,7 @@ func part(bytes []byte) (part, rest []byte) {
 	return bytes[8:end:end], bytes[end:]
 }
 
-// Span answers the first and the last index of a group's entries.
+// Span returns the index of a group's first and of its last entry; found is false if it has no entries.
 func (e *Engine) Span(group uint64) (first, last uint64, found bool, err error) {
 	c, found, err := e.do(func(log *C.raftlog, c *call) C.int {
 		return C.span(log, C.uint64_t(group), &c.first, &c.last, &c.text)
@@ -417,7 +399,7 @@ func (e *Engine) Span(group uint64) (first, last uint64, found bool, err error) 
 	return first, last, found, err
 }
 
-// counted makes a call that answers how many there were.
+// counted makes a call that returns a count.
 func (e *Engine) counted(code func(log *C.raftlog, c *call) C.int) (uint64, error) {
 	c, _, err := e.do(code)
 	defer c.end()
@@ -427,79 +409,15 @@ func (e *Engine) counted(code func(log *C.raftlog, c *call) C.int) (uint64, erro
 	return uint64(c.first), nil
 }
 
-// CompactTo drops the entries below an index, without a sync, and answers how many.
+// CompactTo removes the entries below an index, without a sync, and returns how many they were.
 func (e *Engine) CompactTo(group, index uint64) (uint64, error) {
 	return e.counted(func(log *C.raftlog, c *call) C.int {
 		return C.compact_to(log, C.uint64_t(group), C.uint64_t(index), &c.first, &c.text)
 	})
 }
 
-// PurgeExpiredFiles purges by the settings' thresholds, to be called now and then: it rewrites what old files still hold,
-// and drops them. It changes nothing that the log holds, and does nothing while the log is small. It answers the groups
-// that hold old entries and should be compacted.
-func (e *Engine) PurgeExpiredFiles() ([]uint64, error) {
-	return e.numbers(func(log *C.raftlog, c *call) C.int {
-		return C.purge_expired_files(log, &c.bytes, &c.text)
-	})
-}
-
-// MustRewriteAppendQueue writes what stands in the log files of the Append queue to the Rewrite queue, and drops them; it
-// answers how many they were.
-func (e *Engine) MustRewriteAppendQueue() (uint64, error) {
-	return e.counted(func(log *C.raftlog, c *call) C.int {
-		return C.must_rewrite_append_queue(log, &c.first, &c.text)
-	})
-}
-
-// MustRewriteAppendGroups does what MustRewriteAppendQueue does in short calls, between which others write, but for the
-// files: MustPurgeAllStale drops them behind the last call. It writes again what the groups from one on have in the Append
-// queue's files up to the one of the number watermark (math.MaxUint64 in the first call), as many groups as have budget
-// bytes there together, but one at least. It answers the watermark and the group of the next call, 0 behind the last one.
-func (e *Engine) MustRewriteAppendGroups(watermark, group, budget uint64) (uint64, uint64, error) {
-	c, _, err := e.do(func(log *C.raftlog, c *call) C.int {
-		c.first, c.last = C.uint64_t(watermark), C.uint64_t(group)
-		return C.must_rewrite_append_groups(log, &c.first, &c.last, C.uint64_t(budget), &c.text)
-	})
-	defer c.end()
-	if err != nil {
-		return watermark, group, err
-	}
-	return uint64(c.first), uint64(c.last), nil
-}
-
-// MustRewriteRewriteGroups does what MustRewriteRewriteQueue does in short calls, between which others write. It writes again
-// what the groups from one on (0 in the first call) have in the Rewrite queue's files, as many groups as have budget bytes
-// in that queue, but one at least, and answers the group of the next call, 0 behind the last one: then the old files are
-// gone. An opening or another purge ends such calls, and an error may: begin again with 0.
-func (e *Engine) MustRewriteRewriteGroups(group, budget uint64) (uint64, error) {
-	c, _, err := e.do(func(log *C.raftlog, c *call) C.int {
-		c.first = C.uint64_t(group)
-		return C.must_rewrite_rewrite_groups(log, &c.first, C.uint64_t(budget), &c.text)
-	})
-	defer c.end()
-	if err != nil {
-		return group, err
-	}
-	return uint64(c.first), nil
-}
-
-// MustRewriteRewriteQueue writes what stands in the log files of the Rewrite queue to a new one, and drops them; it
-// answers how many they were.
-func (e *Engine) MustRewriteRewriteQueue() (uint64, error) {
-	return e.counted(func(log *C.raftlog, c *call) C.int {
-		return C.must_rewrite_rewrite_queue(log, &c.first, &c.text)
-	})
-}
-
-// MustPurgeAllStale drops the log files of both queues in front in which nothing stands any more; it answers how many they
-// were of the Append queue.
-func (e *Engine) MustPurgeAllStale() (uint64, error) {
-	return e.counted(func(log *C.raftlog, c *call) C.int {
-		return C.must_purge_all_stale(log, &c.first, &c.text)
-	})
-}
-
-// Scan answers the keys from start up to those before end (nil: no bound) with their values, at most limit (0: all).
+// Scan returns the keys from start up to those before end with their values, in the order of the keys' bytes, or with reverse
+// in the opposite order. A bound may be nil for none; a limit of 0 is none.
 func (e *Engine) Scan(group uint64, start, end []byte, reverse bool, limit uint64) ([]Pair, error) {
 	from, to := bound(start), bound(end)
 	defer C.free(unsafe.Pointer(from))
@@ -521,7 +439,7 @@ func (e *Engine) Scan(group uint64, start, end []byte, reverse bool, limit uint6
 	return pairs, nil
 }
 
-// A slice of C's, with its bytes behind it: C may hold no pointer to a pointer of Go's.
+// bound returns a slice of C's, followed by its bytes: C may not get a pointer to a pointer of Go's.
 func bound(key []byte) *C.raftlog_slice {
 	if key == nil {
 		return nil
@@ -534,12 +452,12 @@ func bound(key []byte) *C.raftlog_slice {
 	return slice
 }
 
-// Groups answers the groups into which something was put since they were last cleaned.
+// Groups returns the groups into which something was put since they were last cleaned, in order.
 func (e *Engine) Groups() ([]uint64, error) {
 	return e.numbers(func(log *C.raftlog, c *call) C.int { return C.groups(log, &c.bytes, &c.text) })
 }
 
-// numbers makes a call that answers numbers.
+// numbers makes a call that returns numbers.
 func (e *Engine) numbers(code func(log *C.raftlog, c *call) C.int) (numbers []uint64, err error) {
 	c, _, err := e.do(code)
 	defer c.end()
@@ -552,16 +470,16 @@ func (e *Engine) numbers(code func(log *C.raftlog, c *call) C.int) (numbers []ui
 	return numbers, nil
 }
 
-// A Batch is written whole or not at all. Its bytes begin with the number of its items.
+// A Batch has changes that are written together: as a whole or not at all. Its bytes begin with the number of its items.
 type Batch struct {
 	bytes []byte
 	count uint64
 }
 
-// Empty says whether it has no items.
+// Empty returns whether the batch has no items.
 func (b *Batch) Empty() bool { return b.count == 0 }
 
-// Clear drops its items.
+// Clear removes all items, and keeps the memory for more.
 func (b *Batch) Clear() { b.bytes, b.count = b.bytes[:0], 0 }
 
 func (b *Batch) whole() []byte {
@@ -603,7 +521,8 @@ func (b *Batch) Delete(group uint64, key []byte) {
 	b.part(key)
 }
 
-// AddEntries adds entries with consecutive indexes; those that the group has from the first one on are replaced.
+// AddEntries adds entries with consecutive indexes. They replace the group's entries from the first index on. That the
+// indexes follow those of the group is checked when the batch is written.
 func (b *Batch) AddEntries(group uint64, entries []Entry) {
 	if len(entries) == 0 {
 		return
@@ -617,10 +536,10 @@ func (b *Batch) AddEntries(group uint64, entries []Entry) {
 	}
 }
 
-// Clean drops all entries and keys of a group.
+// Clean removes all entries and keys of a group.
 func (b *Batch) Clean(group uint64) { b.head(4, group) }
 
-// Compact drops the entries below an index.
+// Compact removes the entries below an index.
 func (b *Batch) Compact(group, index uint64) {
 	b.head(5, group)
 	b.number(index)

@@ -75,6 +75,12 @@ func exercise(t *testing.T, log *Engine) {
 	if groups, err := log.PurgeExpiredFiles(); err != nil || len(groups) != 0 {
 		t.Fatal(groups, err)
 	}
+	if groups, err := log.PurgeInShortCalls(1 << 20); err != nil || len(groups) != 0 {
+		t.Fatal(groups, err)
+	}
+	if watermark, isDue, err := log.AppendRewriteWatermark(); err != nil || isDue || watermark != 0 {
+		t.Fatal(watermark, isDue, err)
+	}
 	watermark, group, err := log.MustRewriteAppendGroups(math.MaxUint64, 0, 0)
 	for err == nil && group != 0 {
 		watermark, group, err = log.MustRewriteAppendGroups(watermark, group, 0)
@@ -100,6 +106,47 @@ func exercise(t *testing.T, log *Engine) {
 	if _, last, _, err := log.Span(7); last != 14 || err != nil {
 		t.Fatal(last, err)
 	}
+}
+
+func TestPurgeInShortCalls(t *testing.T) {
+	log, err := OpenMemory("target-file-size = \"16KB\"\npurge-threshold = \"256KB\"")
+	must(t, err)
+	var b Batch
+	for index := uint64(1); index <= 100; index++ {
+		b.AddEntries(9, []Entry{{index, make([]byte, 200)}})
+	}
+	must(t, log.Write(&b, false))
+	place := func(number int) (uint64, []byte) { return uint64(number%20 + 50), []byte{byte(number / 20 % 10)} }
+	value := func(number int) []byte { return bytes.Repeat([]byte{byte(number), byte(number >> 8)}, 500) }
+	for number := 0; number < 400; number++ {
+		group, key := place(number)
+		b.Put(group, key, value(number))
+		must(t, log.Write(&b, false))
+	}
+	if watermark, isDue, err := log.AppendRewriteWatermark(); err != nil || !isDue || watermark <= 1 {
+		t.Fatal(watermark, isDue, err)
+	}
+	before, err := log.Stats()
+	must(t, err)
+	if groups, err := log.PurgeInShortCalls(4000); err != nil || len(groups) == 0 || groups[0] != 9 {
+		t.Fatal(groups, err)
+	}
+	if after, err := log.Stats(); err != nil || after.Purges <= before.Purges+10 {
+		t.Fatal(before.Purges, after.Purges, err)
+	}
+	if _, isDue, err := log.AppendRewriteWatermark(); err != nil || isDue {
+		t.Fatal(isDue, err)
+	}
+	for number := 200; number < 400; number++ {
+		group, key := place(number)
+		if found, _, err := log.Get(group, key); err != nil || !bytes.Equal(found, value(number)) {
+			t.Fatal(number, err)
+		}
+	}
+	if first, last, _, err := log.Span(9); first != 1 || last != 100 || err != nil {
+		t.Fatal(first, last, err)
+	}
+	must(t, log.Close())
 }
 
 func TestMemory(t *testing.T) {

@@ -32,9 +32,9 @@ func raftlogTell(with unsafe.Pointer, done, all C.uint64_t) {
 	watch(uint64(done), uint64(all))
 }
 
-// SurviveBusErrors is for where a part of a log file can't be read again: the disk fails, or another
-// program cut the file. By default the process ends then, by SIGBUS. After this call, once for the process,
-// a read that needs this part fails as Corruption in its place, and an opening that needs it as IO.
+// SurviveBusErrors, called once for the process, lets a read return an error if a part of a log file can't be read again: the
+// disk fails, or another program cut the file. By default the process ends by SIGBUS then. After this call a read that needs
+// the part fails as Corruption, and an opening that needs it fails as IO.
 func SurviveBusErrors() error {
 	if code := C.raftlog_survive_bus_errors(); code != 0 {
 		return &Error{Code(code), Code(code).String()}
@@ -42,8 +42,8 @@ func SurviveBusErrors() error {
 	return nil
 }
 
-// ExpectReads says how entries will be read that are no longer in memory: in order, the default, with as much
-// ahead as the disk's read_ahead_kb says; or at random, no more than is asked for, in one read.
+// ExpectReads says how entries that are no longer in memory will be read. In order, the default: with each read the system reads
+// ahead, as far as the disk's read_ahead_kb says. At random: one read of no more than is asked for.
 func (e *Engine) ExpectReads(atRandom bool) error {
 	c, _, err := e.do(func(log *C.raftlog, c *call) C.int {
 		return C.raftlog_expect_reads(log, C.bool(atRandom))

@@ -30,7 +30,7 @@ fn main() -> raftlog::Result<()> {
     log.compact_to(group, snapshot + 1)?; // drop what the snapshot has
 
     // Now and then: free log files, and shorten the groups that keep old ones.
-    for group in log.purge_expired_files()? {
+    for group in log.purge_in_short_calls(1 << 20)? {
         log.compact_to(group, make_snapshot(group) + 1)?;
     }
     log.close()

@@ -1,6 +1,6 @@
-//! A log for many Raft groups in a folder: batches of entries, keys and values are appended to one shared log, synced
-//! where that is asked for, and found again after a crash. The engine is proved in Rattle; this crate only calls it. What
-//! it trusts is listed in `raftlog.h`.
+//! A log for many Raft groups, in a folder. Batches of entries, keys and values are appended to one shared log, synced on
+//! request, and found again after a crash. The engine is proved in Rattle; this crate only calls it. `raftlog.h` says what
+//! is trusted.
 //!
 //! ```
 //! let log = raftlog::Engine::open_memory("")?;
@@ -21,28 +21,47 @@ use std::path::{Path, PathBuf};
 use std::ptr;
 use std::time::Duration;
 
-/// Why a call failed.
+/// Why a call failed. `clients/RUST.md`, "Errors", says what to do.
 #[derive(Clone, Copy, Debug, PartialEq, Eq)]
 #[non_exhaustive]
 pub enum Code {
+    /// An argument, a setting or a key is refused. Nothing was changed.
     Invalid,
+    /// A log file can't be read, and the recovery mode doesn't tolerate it. `raftctl FOLDER check` shows where.
     Corruption,
+    /// A file call failed; the message has the file and the cause. After a change the log has failed.
     Io,
+    /// There was no space. A write can be made again; after a purge the log has failed. In a folder this is `Io`.
     TryAgain,
+    /// The entries don't follow those of their group. Nothing was changed.
     Gap,
+    /// An index of 2^64 - 1, a record that is too long, or no number is left for a next file.
     Range,
+    /// A fetch begins before the group's first entry.
     Compacted,
+    /// A fetch ends after the group's last entry.
     NoEntry,
+    /// The stored bytes are the entry of another index.
     WrongIndex,
+    /// The stored bytes are too short for an entry.
     NotAnEntry,
+    /// The log failed in an earlier call: drop it, and open its folder again.
     Failed,
+    /// Out of memory. After a change the log may have failed.
     NoMemory,
+    /// The log has a compressed record, which can't be read.
     Lz4,
+    /// Some numbers of a `write_once` are greater than those that their groups keep, and others aren't.
     StaleNumber,
+    /// The folder is open already; the message names the process.
     InUse,
+    /// A log file's name belongs to a link, a device or a file with several names.
     NotPlain,
+    /// The folder can't be made, locked or read; the message has the cause.
     Folder,
+    /// A log file is missing or was, or isn't the log's (`Engine::open_whole`).
     Lost,
+    /// A code of a later version.
     Other(i32),
 }
 
@@ -72,7 +91,7 @@ impl Code {
     }
 }
 
-/// A failure, with its text.
+/// Why a call failed, for a program and for a reader.
 #[derive(Clone, Debug, PartialEq, Eq)]
 pub struct Error {
     pub code: Code,
@@ -84,7 +103,7 @@ impl Error {
         Error { code: Code::Invalid, message: message.into() }
     }
 
-    // A text of C's, which ends with a NUL, or that of the code if there is none.
+    // The text that C wrote, which ends with a NUL, or the code's own text if C wrote none.
     fn told(code: c_int, text: &[u8]) -> Error {
         let found = CStr::from_bytes_until_nul(text).map_or(String::new(), |t| t.to_string_lossy().into_owned());
         let message = if found.is_empty() { code_text(code) } else { found };
@@ -100,6 +119,7 @@ impl fmt::Display for Error {
 
 impl std::error::Error for Error {}
 
+/// A result with this crate's error.
 pub type Result<T> = std::result::Result<T, Error>;
 
 const OK: c_int = 0;
@@ -112,7 +132,7 @@ fn code_text(code: c_int) -> String {
 // The bytes of a batch without items: their number.
 const NO_ITEMS: [u8; 8] = [0; 8];
 
-/// A batch, which is written whole or not at all.
+/// Changes that are written together: as a whole or not at all.
 #[derive(Clone, Debug)]
 pub struct LogBatch {
     bytes: Vec<u8>,
@@ -126,14 +146,17 @@ impl Default for LogBatch {
 }
 
 impl LogBatch {
+    /// A batch without changes.
     pub fn new() -> LogBatch {
         LogBatch::default()
     }
 
+    /// Whether it has no changes.
     pub fn is_empty(&self) -> bool {
         self.count == 0
     }
 
+    /// Removes all changes, and keeps the memory for more.
     pub fn clear(&mut self) {
         self.bytes.truncate(8);
         self.count(0);
@@ -174,7 +197,8 @@ impl LogBatch {
         self
     }
 
-    /// Entries with consecutive indexes; those that the group has from the first one on are replaced. Nothing for none.
+    /// Adds entries with consecutive indexes. They replace the group's entries from the first index on. That the indexes
+    /// follow those of the group is checked when the batch is written.
     pub fn add_entries<'a>(&mut self, group: u64, entries: impl IntoIterator<Item = (u64, &'a [u8])>) -> &mut LogBatch {
         let start = self.bytes.len();
         self.head(3, group);
@@ -196,13 +220,13 @@ impl LogBatch {
         self
     }
 
-    /// All entries and keys of the group go.
+    /// Removes all entries and keys of the group.
     pub fn clean(&mut self, group: u64) -> &mut LogBatch {
         self.head(4, group);
         self
     }
 
-    /// The entries below an index go.
+    /// Removes the entries below an index.
     pub fn compact(&mut self, group: u64, index: u64) -> &mut LogBatch {
         self.head(5, group);
         self.number(index);
@@ -227,6 +251,11 @@ impl Bytes {
 
     fn parts(&self) -> Parts<'_> {
         Parts(self.as_slice())
+    }
+
+    fn numbers(&self) -> Vec<u64> {
+        let mut parts = self.parts();
+        std::iter::from_fn(|| parts.number()).collect()
     }
 }
 
@@ -253,48 +282,51 @@ impl<'a> Parts<'a> {
     }
 }
 
-/// What a log did since it was opened, in rounds that are over. The mean number of changes that share a
-/// round is `changes / rounds`, and a sync takes `sync_time / syncs`. Where nothing is purged, and no file
-/// is full, `synced_changes / syncs` share a sync.
+/// What a log has done since it was opened, in rounds that are over. On average `changes / rounds` changes share a round,
+/// and a sync takes `sync_time / syncs`. A purge and a next file have syncs of their own; without these
+/// `synced_changes / syncs` changes share a sync.
 #[derive(Clone, Copy, Debug, PartialEq, Eq)]
 #[non_exhaustive]
 pub struct Stats {
     pub rounds: u64,
-    /// In them: writes, syncs, compactions, purges.
+    /// Writes, syncs, compactions and purges in these rounds.
     pub changes: u64,
-    /// Of these, those that asked for a sync and were done.
+    /// Changes that asked for a sync and were done.
     pub synced_changes: u64,
     /// The most changes of a round.
     pub largest_round: u64,
     /// Syncs of log files, whoever asked for them.
     pub syncs: u64,
-    /// Bytes that were written to log files.
+    /// Bytes written to log files.
     pub bytes: u64,
-    /// How long these syncs took.
+    /// Time of these syncs.
     pub sync_time: Duration,
-    /// Of the changes, writes that were done.
+    /// Writes that were done.
     pub batches: u64,
     /// Calls of the system that wrote these bytes.
     pub writes: u64,
+    /// Time of the longest sync.
     pub longest_sync: Duration,
-    /// Syncs by classes of their times: class `i` has those under `2^i` microseconds, and not under the bound of the one
-    /// before; the last one has no bound.
+    /// Syncs by classes of their times. Class 0 has those under a microsecond, each next class those under twice the bound
+    /// before, and the last class all others.
     pub sync_times: [u64; SYNC_CLASSES],
-    /// Files that a queue went on to.
+    /// Files that a queue has begun.
     pub next_files: u64,
-    /// Of these, those that were dropped or reserved files before.
+    /// Of these, files that were dropped or reserved before.
     pub recycled_files: u64,
+    /// Files that were deleted.
     pub deleted_files: u64,
-    /// Calls of purges that were carried out, a short one too.
+    /// Purge calls that were carried out, each short call too.
     pub purges: u64,
-    /// How long these took, without their wait for a turn.
+    /// Time of these calls, without their wait for a round.
     pub purge_time: Duration,
+    /// Time of the longest of these calls.
     pub longest_purge: Duration,
-    /// Files that the folder has now, reserved ones too; 0 in memory.
+    /// Files in the folder now, reserved ones too; 0 in memory.
     pub files: u64,
     /// Memory of the index now: places of entries, rows of keys and groups, without the bytes of keys and values.
     pub index_bytes: u64,
-    /// Reads of an entry whose block was kept; the last 16 are.
+    /// Reads of an entry whose block was kept; the last 16 blocks are kept.
     pub block_hits: u64,
     /// Reads of an entry that had to read its block.
     pub block_misses: u64,
@@ -366,7 +398,7 @@ pub struct Cut {
     pub stale: bool,
 }
 
-// Who is told how far an opening is. No panic goes through C: it goes on behind the opening.
+// Gets the progress of an opening. A panic can't unwind through C, so it continues after the opening.
 struct Watched<'a> {
     watch: &'a mut dyn FnMut(u64, u64),
     panic: Option<Box<dyn std::any::Any + Send>>,
@@ -383,9 +415,9 @@ fn path_text(path: &Path) -> Result<CString> {
     CString::new(path.as_os_str().as_bytes()).map_err(|_| Error::invalid("the folder's path has a NUL"))
 }
 
-/// By default the process ends, by SIGBUS, where a part of a log file can't be read again: the disk fails, or another
-/// program cut the file. After this call, once for the process, a read that needs this part answers `Code::Corruption` in
-/// its place, and an opening that needs it fails as `Code::Io`. Other SIGBUS go to the handler that was set before.
+/// By default the process ends by SIGBUS if a part of a log file can't be read again: the disk fails, or another program
+/// cut the file. After this call, once for the process, a read that needs this part fails as `Code::Corruption`, and an
+/// opening that needs it fails as `Code::Io`. Other SIGBUS go to the handler that was set before.
 pub fn survive_bus_errors() -> Result<()> {
     match unsafe { sys::raftlog_survive_bus_errors() } {
         OK => Ok(()),
@@ -393,14 +425,13 @@ pub fn survive_bus_errors() -> Result<()> {
     }
 }
 
-/// An open log. It may be used by many threads: writers that come at once share a sync, and of these a
-/// read waits only for those that change its group (`raftlog.h`, "Rounds"). It is closed, with a sync,
-/// when it is dropped; `close` tells whether that was done.
+/// An open log. Many threads may use it. Threads that write at the same time share a sync, and a read waits only for writes
+/// to its group (`raftlog.h`, "Rounds"). A drop syncs and closes it, and reports no failure; `close` does.
 pub struct Engine {
     log: *mut sys::raftlog,
 }
 
-// Any thread may make any call but `raftlog_close`, which takes the log itself.
+// Any thread may make any call. `raftlog_close` takes the log, and no other call can run then.
 unsafe impl Send for Engine {}
 unsafe impl Sync for Engine {}
 
@@ -411,8 +442,8 @@ impl fmt::Debug for Engine {
 }
 
 impl Engine {
-    /// Opens the log in a folder, which is made where it is missing. The settings are TOML, as
-    /// `target-file-size = "64MB"`; those that aren't named are the defaults.
+    /// Opens the log in a folder; a missing folder is made. The settings are TOML, for example
+    /// `target-file-size = "64MB"`. Each that isn't given has its default, and so have all for `""`.
     pub fn open(folder: impl AsRef<Path>, settings: &str) -> Result<Engine> {
         let folder = path_text(folder.as_ref())?;
         Engine::opened(settings, |settings, out, text, room| unsafe {
@@ -420,8 +451,8 @@ impl Engine {
         })
     }
 
-    /// As `open`. `watch` is told how far it is, with each file: of so many bytes, so many are read. Once all are, they are
-    /// replayed, which takes as long again.
+    /// As `open`, and calls `watch` with each file: how many bytes are read, and how many there are. When all are read, they
+    /// are replayed, which takes as long again.
     pub fn open_watched(folder: impl AsRef<Path>, settings: &str, mut watch: impl FnMut(u64, u64)) -> Result<Engine> {
         let folder = path_text(folder.as_ref())?;
         let mut watched = Watched { watch: &mut watch, panic: None };
@@ -435,8 +466,8 @@ impl Engine {
         engine
     }
 
-    /// As `open`, but fails as `Code::Lost` if a log file is missing or was, or is a stray. It has changed no log
-    /// file then.
+    /// As `open`, but fails as `Code::Lost` if a log file is missing or was, or isn't the log's. It has changed no log file
+    /// then.
     pub fn open_whole(folder: impl AsRef<Path>, settings: &str) -> Result<Engine> {
         let folder = path_text(folder.as_ref())?;
         Engine::opened(settings, |settings, out, text, room| unsafe {
@@ -476,7 +507,7 @@ impl Engine {
         self.found(code).map(|_| ())
     }
 
-    // Whether what was asked for is there.
+    // Whether the requested value exists.
     fn found(&self, code: c_int) -> Result<bool> {
         match code {
             OK => Ok(true),
@@ -485,16 +516,18 @@ impl Engine {
         }
     }
 
-    /// Writes a batch, and empties it where that was done. After an `Ok` with `sync` it survives a crash, with all that
-    /// was written before it.
+    /// Writes a batch, and empties it if that is done; else the batch is as it was. After `Ok` with `sync` it survives a
+    /// crash, with all that was written before it; without `sync` it does after the next sync.
     pub fn write(&self, batch: &mut LogBatch, sync: bool) -> Result<()> {
         self.done(unsafe { sys::raftlog_write_bytes(self.log, batch.bytes.as_ptr().cast(), batch.bytes.len(), sync) })?;
         batch.clear();
         Ok(())
     }
 
-    /// Writes a batch that acts once, however often it is written: with it each of these groups takes the number beside
-    /// it. Each number has to be greater than the one that its group keeps; where none is, nothing is written.
+    /// Writes a batch that acts once, however often it is written. With it each of these groups gets the number beside it.
+    /// Each number must be greater than the one that its group keeps; a group that keeps none counts as 0. If none of the
+    /// numbers is greater, the batch was written before: nothing is written, and the call returns `Ok`. If some are greater
+    /// and others aren't, it fails as `Code::StaleNumber`.
     pub fn write_once(&self, batch: &mut LogBatch, pairs: &[(u64, u64)], sync: bool) -> Result<()> {
         let (groups, numbers): (Vec<u64>, Vec<u64>) = pairs.iter().copied().unzip();
         let bytes = &batch.bytes;
@@ -513,12 +546,12 @@ impl Engine {
         Ok(())
     }
 
-    /// Syncs all that was written.
+    /// Syncs: after `Ok` all that was written survives a crash.
     pub fn sync(&self) -> Result<()> {
         self.done(unsafe { sys::raftlog_sync(self.log) })
     }
 
-    /// What the log did so far.
+    /// What the log has done since it was opened.
     pub fn stats(&self) -> Result<Stats> {
         let mut counts = sys::raftlog_counts::default();
         self.done(unsafe { sys::raftlog_stats(self.log, &mut counts, size_of::<sys::raftlog_counts>()) })?;
@@ -557,9 +590,9 @@ impl Engine {
         found.iter().map(|cut| Cut { path: path_of(cut), offset: cut.offset, len: cut.len, stale: cut.stale }).collect()
     }
 
-    /// The log files that the opening found to be missing or strays. After a crash or a kill there are none. Later openings
-    /// report them too, until the files are put back, the note is stale, or the note is gone: `accept_missing` removes
-    /// it, and so does a write that can make no new one.
+    /// The log files that someone else deleted, and files that aren't the log's, as the opening found them. After a crash
+    /// or a kill there are none. Later openings report them too, until the files are put back or `accept_missing` accepts
+    /// the loss; `raftlog.h` has the details.
     pub fn missing(&self) -> Vec<Loss> {
         let count = unsafe { sys::raftlog_missing(self.log, ptr::null_mut(), 0, 0) };
         let mut found = Vec::with_capacity(count);
@@ -574,8 +607,8 @@ impl Engine {
         found.iter().map(loss_of).collect()
     }
 
-    /// How entries will be read that are no longer in memory: in order, the default, with as much ahead as the disk's
-    /// `read_ahead_kb` says; or at random, no more than is asked for, in one read.
+    /// Says how entries that are no longer in memory will be read. In order, the default: with each read the system reads
+    /// ahead, as far as the disk's `read_ahead_kb` says. At random: one read of no more than is asked for.
     pub fn expect_reads(&self, at_random: bool) -> Result<()> {
         self.done(unsafe { sys::raftlog_expect_reads(self.log, at_random) })
     }
@@ -607,72 +640,90 @@ impl Engine {
         Ok(entries)
     }
 
-    /// The index of a group's first entry.
+    /// The index of a group's first entry; `None` if it has no entries.
     pub fn first_index(&self, group: u64) -> Result<Option<u64>> {
         let mut index = 0;
         let code = unsafe { sys::raftlog_first_index(self.log, group, &mut index) };
         Ok(self.found(code)?.then_some(index))
     }
 
-    /// .. and of its last one.
+    /// The index of a group's last entry; `None` if it has no entries.
     pub fn last_index(&self, group: u64) -> Result<Option<u64>> {
         let mut index = 0;
         let code = unsafe { sys::raftlog_last_index(self.log, group, &mut index) };
         Ok(self.found(code)?.then_some(index))
     }
 
-    /// Drops the entries below an index, without a sync, and says how many.
+    /// Removes the entries below an index, without a sync, and returns how many they were.
     pub fn compact_to(&self, group: u64, index: u64) -> Result<u64> {
         let mut count = 0;
         self.done(unsafe { sys::raftlog_compact_to(self.log, group, index, &mut count) })?;
         Ok(count)
     }
 
-    /// Purges by the settings' thresholds, to be called now and then: rewrites what old files still hold, and drops them.
-    /// Changes nothing that the log holds, and does nothing while the log is small. Answers the groups that hold old
-    /// entries and should be compacted.
+    /// Purges by the settings' thresholds: call it every few seconds. It writes again what old files still have, and drops
+    /// these files; while the log is small it does nothing. Returns the groups that have many old entries: compact them.
+    /// The log's contents stay as they are. Other threads read and write between its calls. Each call writes at most
+    /// `budget` bytes, or one group that has more; 1 MB is a good budget.
+    pub fn purge_in_short_calls(&self, budget: u64) -> Result<Vec<u64>> {
+        let mut groups = Bytes::new();
+        self.done(unsafe { sys::raftlog_purge_in_short_calls(self.log, budget, &mut groups.0) })?;
+        Ok(groups.numbers())
+    }
+
+    /// Does the same in one call, for which all other calls wait. It differs in one thing: it writes the old entries of a
+    /// group that it returns only in the tenth purge.
     pub fn purge_expired_files(&self) -> Result<Vec<u64>> {
         let mut groups = Bytes::new();
         self.done(unsafe { sys::raftlog_purge_expired_files(self.log, &mut groups.0) })?;
-        let mut parts = groups.parts();
-        Ok(std::iter::from_fn(|| parts.number()).collect())
+        Ok(groups.numbers())
     }
 
-    /// Writes what stands in the log files of the Append queue to the Rewrite queue, drops them, and says how many.
+    /// The number of the last file of the Append queue that these two would write again now, if they would write any. It is
+    /// the watermark for a series of `must_rewrite_append_groups`.
+    pub fn append_rewrite_watermark(&self) -> Result<Option<u64>> {
+        let mut watermark = 0;
+        let code = unsafe { sys::raftlog_append_rewrite_watermark(self.log, &mut watermark) };
+        Ok(self.found(code)?.then_some(watermark))
+    }
+
+    /// Writes what the Append queue's log files have to the Rewrite queue, drops these files, and returns how many they
+    /// were.
     pub fn must_rewrite_append_queue(&self) -> Result<u64> {
         let mut count = 0;
         self.done(unsafe { sys::raftlog_must_rewrite_append_queue(self.log, &mut count) })?;
         Ok(count)
     }
 
-    /// Does what `must_rewrite_append_queue` does in short calls, between which others write, but for the files:
-    /// `must_purge_all_stale` drops them behind the last call. Writes again what the groups from one on have in the Append
-    /// queue's files up to the one of the number `watermark` (`u64::MAX` in the first call), as many groups as have
-    /// `budget` bytes there together, but one at least. Says the watermark and the group of the next call, if there is one.
+    /// One of a series of short calls, between which others read and write. It writes what the groups from one on have in
+    /// the Append queue's files up to the number `watermark` to the Rewrite queue: of as many groups as have `budget` bytes
+    /// there together, but of one at least. Returns the watermark and the group for the next call. Begin with `u64::MAX`,
+    /// which means the last file, and 0. After the last call `must_purge_all_stale` drops the files.
     pub fn must_rewrite_append_groups(&self, watermark: u64, group: u64, budget: u64) -> Result<(u64, Option<u64>)> {
         let (mut watermark, mut group) = (watermark, group);
         self.done(unsafe { sys::raftlog_must_rewrite_append_groups(self.log, &mut watermark, &mut group, budget) })?;
         Ok((watermark, (group != 0).then_some(group)))
     }
 
-    /// Does what `must_rewrite_rewrite_queue` does in short calls, between which others write: writes again what the groups
-    /// from one on (0 in the first call) have in the Rewrite queue's files, as many groups as have `budget` bytes in that
-    /// queue, but one at least. Says the group of the next call; behind the last one the old files are gone. An opening or
-    /// another purge ends such calls, and a failure may: begin again with 0.
+    /// One of a series of short calls, between which others read and write. It writes what the groups from one on have in
+    /// the Rewrite queue's files to new files of it: of as many groups as have `budget` bytes there together, but of one at
+    /// least. Returns the group for the next call. Begin with 0. The last call, which returns none, drops the old files. An
+    /// opening or another purge ends the series, and a failure may: then begin again with 0.
     pub fn must_rewrite_rewrite_groups(&self, group: u64, budget: u64) -> Result<Option<u64>> {
         let mut group = group;
         self.done(unsafe { sys::raftlog_must_rewrite_rewrite_groups(self.log, &mut group, budget) })?;
         Ok((group != 0).then_some(group))
     }
 
-    /// Writes what stands in the log files of the Rewrite queue to a new one, drops them, and says how many.
+    /// Writes what the Rewrite queue's log files have to a new one, drops these files, and returns how many they were.
     pub fn must_rewrite_rewrite_queue(&self) -> Result<u64> {
         let mut count = 0;
         self.done(unsafe { sys::raftlog_must_rewrite_rewrite_queue(self.log, &mut count) })?;
         Ok(count)
     }
 
-    /// Drops the log files in front in which nothing stands, of both queues, and says how many of the Append queue.
+    /// Drops the first log files of both queues that contain nothing any more. Returns how many of the Append queue it
+    /// dropped.
     pub fn must_purge_all_stale(&self) -> Result<u64> {
         let mut count = 0;
         self.done(unsafe { sys::raftlog_must_purge_all_stale(self.log, &mut count) })?;
@@ -718,11 +769,10 @@ impl Engine {
     pub fn raft_groups(&self) -> Result<Vec<u64>> {
         let mut bytes = Bytes::new();
         self.done(unsafe { sys::raftlog_groups(self.log, &mut bytes.0) })?;
-        let mut parts = bytes.parts();
-        Ok(std::iter::from_fn(|| parts.number()).collect())
+        Ok(bytes.numbers())
     }
 
-    /// Syncs and closes.
+    /// Syncs and closes. After `Ok` all that was written survives a crash.
     pub fn close(mut self) -> Result<()> {
         match unsafe { sys::raftlog_close(std::mem::replace(&mut self.log, ptr::null_mut())) } {
             OK => Ok(()),

@@ -104,6 +104,8 @@ extern "C" {
     pub fn raftlog_must_rewrite_rewrite_queue(log: *mut raftlog, count: *mut u64) -> c_int;
     pub fn raftlog_must_purge_all_stale(log: *mut raftlog, count: *mut u64) -> c_int;
     pub fn raftlog_purge_expired_files(log: *mut raftlog, groups: *mut raftlog_bytes) -> c_int;
+    pub fn raftlog_purge_in_short_calls(log: *mut raftlog, budget: u64, groups: *mut raftlog_bytes) -> c_int;
+    pub fn raftlog_append_rewrite_watermark(log: *mut raftlog, watermark: *mut u64) -> c_int;
     pub fn raftlog_scan(log: *mut raftlog, group: u64, start: *const raftlog_slice, end: *const raftlog_slice, reverse: bool, limit: u64, pairs: *mut raftlog_bytes) -> c_int;
     pub fn raftlog_groups(log: *mut raftlog, groups: *mut raftlog_bytes) -> c_int;
 }

@@ -41,6 +41,8 @@ fn exercise(log: &Engine) {
     log.sync().unwrap();
     log.must_purge_all_stale().unwrap();
     assert_eq!(log.purge_expired_files().unwrap(), []);
+    assert_eq!(log.purge_in_short_calls(1 << 20).unwrap(), []);
+    assert_eq!(log.append_rewrite_watermark().unwrap(), None);
     let (watermark, mut next) = log.must_rewrite_append_groups(u64::MAX, 0, 0).unwrap();
     while let Some(group) = next {
         next = log.must_rewrite_append_groups(watermark, group, 0).unwrap().1;
@@ -52,6 +54,31 @@ fn exercise(log: &Engine) {
     log.must_rewrite_append_queue().unwrap();
     log.must_rewrite_rewrite_queue().unwrap();
     assert_eq!(log.last_index(7).unwrap(), Some(14));
+}
+
+#[test]
+fn purge_in_short_calls() {
+    let log = Engine::open_memory("target-file-size = \"16KB\"\npurge-threshold = \"256KB\"").unwrap();
+    let mut batch = LogBatch::new();
+    let (old, value) = ([0; 200], |number: u32| format!("{number:04}").repeat(250).into_bytes());
+    let place = |number: u32| (u64::from(number) % 20 + 50, [(number / 20 % 10) as u8]);
+    batch.add_entries(9, (1..101).map(|index| (index, old.as_slice())));
+    log.write(&mut batch, false).unwrap();
+    for number in 0..400 {
+        let (group, key) = place(number);
+        batch.put(group, &key, &value(number));
+        log.write(&mut batch, false).unwrap();
+    }
+    assert!(log.append_rewrite_watermark().unwrap() > Some(1));
+    let calls = log.stats().unwrap().purges;
+    assert!(log.purge_in_short_calls(4000).unwrap().contains(&9));
+    assert!(log.stats().unwrap().purges > calls + 10);
+    assert_eq!(log.append_rewrite_watermark().unwrap(), None);
+    for number in 200..400 {
+        let (group, key) = place(number);
+        assert_eq!(log.get(group, &key).unwrap(), Some(value(number)));
+    }
+    assert_eq!((log.first_index(9).unwrap(), log.last_index(9).unwrap()), (Some(1), Some(100)));
 }
 
 #[test]

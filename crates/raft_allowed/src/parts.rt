@@ -91,7 +91,7 @@ pub(crate) fn is_mark(key: &[u8]) -> bool
 }
 
 /// The entries after new ones are added. New entries replace all from their first index on. If
-/// they aren't consecutive to the list, they replace all of it.
+/// that is neither inside the list nor right after it, they replace the whole list.
 pub(crate) fn with_entries(
     alloc: Global,
     old: &[(u64, Vec<u8>)],

@@ -407,6 +407,20 @@ pub extern "C" fn raft_c_span(alloc: Global, handle: &mut Handle, group: u64) ->
     code
 }
 
+/// What a purge by the settings' thresholds would rewrite now. The first number is the last file of
+/// the Append queue, 0 if none; the second one is 1 if the Rewrite queue is to be rewritten, else 0.
+#[unsafe(no_mangle)]
+pub extern "C" fn raft_c_purge_needs(alloc: Global, handle: &mut Handle) -> i32
+    requires { IsSome handle.old.value }
+    ensures some { IsSome handle.new.value }
+    ensures value { HasRead Query.PurgeNeeds result handle.old.value handle.new.value }
+{
+    let mut log = std::mem::replace(handle, Handle::none()).into_box(alloc);
+    let code = log.read(Query::PurgeNeeds);
+    *handle = Handle::of_box(log);
+    code
+}
+
 /// The bytes of the last call's result, or the text of its failure, once more.
 #[unsafe(no_mangle)]
 pub extern "C" fn raft_c_answer(alloc: Global, handle: &mut Handle, out: &mut [u8]) -> u64

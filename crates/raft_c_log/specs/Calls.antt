@@ -1,7 +1,7 @@
 -- What calls on an open log do and return, by what its engine holds.
 use Rattle.std.specs.Borrow.{Bor}
 use Rattle.std.specs.Option.{option_copied}
-use Rattle.std.specs.Prelude.{◌≡◌, ◌⊎◌, ℕ, Bool, true, false, List, [], length, Option, Some, None, Result, Ok, Err, IsErrAnd, IsSomeAnd, Vec, drop, min, option_map, unwrap_or, zip}
+use Rattle.std.specs.Prelude.{◌≡◌, ◌⊎◌, ℕ, Bool, true, false, List, [], length, Option, Some, None, Result, Ok, Err, IsErrAnd, IsSomeAnd, Vec, drop, min, option_map, unwrap_or, zip, if◌then◌else◌}
 use Rattle.std.specs.declared.alloc.Global.{Global}
 use Rattle.raft_base.specs.declared.errors.Fault.{Fault}
 use Rattle.raft_base.specs.declared.errors.Fault.TheVariants.{Memory}
@@ -15,6 +15,7 @@ use Rattle.raft_c_batch.specs.Parts.{numbers_bytes, pairs_bytes}
 use Rattle.raft_log_engine.specs.Calls.{IsCallersWrite, IsCompaction, IsSync}
 use Rattle.raft_log_engine.specs.Engine.{contents_of, is_known_in, queue_of}
 use Rattle.raft_log_engine.specs.Image.{IsWithout}
+use Rattle.raft_log_engine.specs.Need.{append_rewrite_watermark, needs_of}
 use Rattle.raft_log_engine.specs.Once.{IsWriteOnce}
 use Rattle.raft_log_engine.specs.PurgeCalls.{IsAppendRewrite, IsExpiry, IsRewriteRewrite, IsStalePurge}
 use Rattle.raft_log_engine.specs.Reads.{IsFetchable, IsGroupList, entries_to_fetch, entry_of}
@@ -130,6 +131,11 @@ module _ {F H R W : Type 0} {g : Ghosts F H R W} where
 
   -- Queries.
 
+  -- what is to be rewritten now: up to which file of the Append queue, and whether the Rewrite queue
+  abbrev pub needs_told : Engine F H R W g → ℕ × ℕ
+  needs_told e =
+      (unwrap_or (append_rewrite_watermark e) 0, (if (needs_of e).rewrite then 1 else 0))
+
   -- the result of a query of the known groups
   abbrev pub IsGroupsAnswer : Engine F H R W g → List ℕ → Type 0
   IsGroupsAnswer e answer = (groups : List ℕ)
@@ -149,3 +155,4 @@ module _ {F H R W : Type 0} {g : Ghosts F H R W} where
       (found ≡ true) × IsGroupsAnswer e answer.bytes.items
   HasAnswered (query.Span group) e answer found =
       IsSpanAnswer ((contents_of e).entries group) answer.numbers found
+  HasAnswered query.PurgeNeeds e answer found = (found ≡ true) × (answer.numbers ≡ needs_told e)

@@ -68,6 +68,7 @@ module _ {F H R W : Type 0} {g : Ghosts F H R W} where
       (IsWithout (contents_of old) scan.group → ⊥) × (e ≡ fault.Memory)
   IsQueryFault query.Groups old new e = e ≡ fault.Memory
   IsQueryFault (query.Span group) old new e = ⊥
+  IsQueryFault query.PurgeNeeds old new e = ⊥
 
   -- the query fails with a fault of this code
   pub record IsUnanswered (q : Query) (code : ℤ) (old new : Engine F H R W g) : Type 0 where

@@ -37,6 +37,9 @@ pub enum Query<'a> {
     Groups,
     /// The first and the last index of a group.
     Span(u64),
+    /// What a purge by the settings' thresholds would rewrite now: up to which file of the Append
+    /// queue, or 0, and 1 if the Rewrite queue, else 0.
+    PurgeNeeds,
 }
 
 /// The entries of a group from one index up to another, of at most so many bytes; 0 is no bound.

@@ -10,7 +10,7 @@ use crate::numbers::pairs_in;
 use crate::opening::{Unopened, engine_over};
 use crate::scan::pairs_of;
 use raft_c_batch::{BatchFault, Entry, add_items, push_entries, push_numbers};
-use raft_log_engine::{CacheCounts, Engine, Fault, FileSystem, LogBatch};
+use raft_log_engine::{CacheCounts, Engine, Fault, FileSystem, LogBatch, LogQueue};
 use std::alloc::Global;
 
 /// The code for a requested item that does not exist.
@@ -80,7 +80,7 @@ impl<F: FileSystem> OpenLog<F> {
     ghost use Rattle.raft_log_engine.specs.Once.{IsWriteOnce};
     ghost use Rattle.raft_log_engine.specs.Reads.{entry_of};
     ghost use Rattle.raft_once.specs.Numbers.{shown};
-    ghost use Rattle.raft_c_log.specs.Calls.{HasAnswered, IsBatchCall, IsCalled, IsFetchAnswer, IsGroupsAnswer, IsKeptOff, IsScanAnswer, IsSpanAnswer, answered};
+    ghost use Rattle.raft_c_log.specs.Calls.{HasAnswered, IsBatchCall, IsCalled, IsFetchAnswer, IsGroupsAnswer, IsKeptOff, IsScanAnswer, IsSpanAnswer, answered, needs_told};
     ghost use Rattle.raft_c_log.specs.Outcomes.{HasEnded, IsReply};
     ghost use Rattle.raft_c_log.specs.Refusals.{IsBytesRefusal, IsQueryFault, IsRefusalFor};
     ghost use Rattle.raft_c_log.specs.declared.calls.Change.TheVariants.{CompactTo, PurgeAllStale, PurgeExpired, RewriteAppendGroups, RewriteAppendQueue, RewriteRewriteGroups, RewriteRewriteQueue};
@@ -330,6 +330,7 @@ impl<F: FileSystem> OpenLog<F> {
             Query::Scan(scan) => self.scan(scan, answer),
             Query::Groups => self.groups(answer),
             Query::Span(group) => self.span(group, answer),
+            Query::PurgeNeeds => self.purge_needs(answer),
         }
     }
 
@@ -433,6 +434,21 @@ impl<F: FileSystem> OpenLog<F> {
             return Ok(false);
         };
         answer.numbers = (first, last);
+        Ok(true)
+    }
+
+    fn purge_needs(&self, answer: &mut Answer) -> Result<bool, Fault>
+        ensures value { IfOk result (λ found. (found ≡ true)
+            × (answer.new.numbers ≡ needs_told self.now.engine)) }
+        ensures failed { (result ≡ Err Failed) ↔ (has_failed self.now.engine ≡ true) }
+        ensures cause { IfErr result (IsRefusalFor (has_failed self.now.engine) (λ e. ⊥)) }
+    {
+        if self.engine.failed() {
+            return Err(Fault::Failed);
+        }
+        let watermark = self.engine.append_rewrite_watermark().unwrap_or(0);
+        let is_due = self.engine.needs_rewrite_log_files(LogQueue::Rewrite);
+        answer.numbers = (watermark, if is_due { 1 } else { 0 });
         Ok(true)
     }
 }

@@ -5,6 +5,7 @@ use Rattle.raft_base.specs.declared.pipe_log.Version.TheVariants.{V2}
 use Rattle.raft_config.specs.declared.config.Config.{Config}
 use Rattle.raft_config.specs.declared.config.RecoveryMode.TheVariants.{TolerateTailCorruption}
 
+-- the default settings
 pub record IsDefault (c : Config) : Type 0 where
   pub dir : string_bytes c.dir ≡ []
   pub spill_dir : c.spill_dir ≡ None

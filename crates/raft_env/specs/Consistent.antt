@@ -25,6 +25,7 @@ pub past_prop : (bytes : List ℕ) (changes : List Change) → IsProp (IsPastOf 
 past_prop bytes [] = Prim.hlevel props
 past_prop bytes (c ∷ changes) = Prim.hlevel (props, past_prop c.before changes)
 
+-- a file is what its changes made of it
 pub record IsConsistent (file : File) : Type 0 where
   pub latest : file.now ≡ bytes_after file.synced file.changes
   pub untouched : (i : ℕ) → i < length file.synced → is_touched file.changes i ≡ false
@@ -33,6 +34,7 @@ pub record IsConsistent (file : File) : Type 0 where
   pub past : IsPastOf file.now (file.changes ++ file.older)
   pub earlier : IsPastOf file.synced file.older
 
+-- IsConsistent, of each file
 abbrev pub AreConsistent : Directory → Type 0
 AreConsistent n = (path : Path) (file : File) → file_at n path ≡ Some file → IsConsistent file
 
@@ -41,6 +43,6 @@ abbrev pub OnlyWritesFailedAt : Path → Directory → Type 0
 OnlyWritesFailedAt path n = (file : File) → file_at n path ≡ Some file
     → OnlyWritesFailed (file.changes ++ file.older)
 
--- .. of the files at all paths
+-- OnlyWritesFailedAt each path
 abbrev pub OnlyWritesFailedIn : Directory → Type 0
 OnlyWritesFailedIn n = (path : Path) → OnlyWritesFailedAt path n

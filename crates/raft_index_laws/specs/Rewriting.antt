@@ -84,5 +84,6 @@ MayAllBeWritten watermark id blocks owed t (item ∷ items) =
 abbrev pub entries_item : ℕ → List Entry → Item
 entries_item group es = record { group = group; content = Entries es }
 
+-- the item of a group that has these entries by their places
 abbrev pub placed_entries_item : ℕ → List (ℕ × EntryPlace) → PlacedItem
 placed_entries_item group es = record { group = group; content = EntriesAt es }

@@ -55,6 +55,7 @@ abbrev pub rank_in : ℕ → LogQueue → ℕ
 rank_in seq Append = seq + 1
 rank_in seq Rewrite = 0
 
+-- the rank of the file of a place
 abbrev pub rank_of : EntryPlace → ℕ
 rank_of place = unwrap_or (option_map (λ block. rank_in block.id.seq block.id.queue) place.block) 0
 
@@ -70,6 +71,7 @@ PlacedEntryStands left marks held e seq Append =
     (index : ℕ) → e.0 ≤ index → left seq index ≡ false
 PlacedEntryStands left marks held e seq Rewrite = Contains held e × (marks.cleaned ≡ false)
 
+-- PlacedEntryStands, in the file of the entry's block
 abbrev pub StandsInBlock : (ℕ → ℕ → Bool) → Marks → List Entry → Entry → Option FileBlockHandle
     → Type 0
 StandsInBlock left marks held e None = ⊥

@@ -6,6 +6,7 @@ use Rattle.raft_listeners.specs.Waiting.{IsFirstWaiting, Waiting, after_event, r
 use Rattle.raft_listeners.specs.declared.listener.Event.{Event}
 use Rattle.raft_listeners.specs.declared.listener.Event.TheVariants as event
 
+-- what listeners have heard and answered
 pub record Heard : Type 0 where
   -- how many listeners the caller gave
   pub given : ℕ

@@ -9,6 +9,7 @@ use Rattle.raft_listeners.specs.declared.listener.Event.TheVariants as event
 use Rattle.raft_records.specs.Batch.{BatchView}
 use Rattle.raft_records.specs.Record.{record_bytes}
 
+-- whether it is the Rewrite queue
 abbrev pub is_rewrite : LogQueue → Bool
 is_rewrite Append = false
 is_rewrite Rewrite = true
@@ -29,7 +30,7 @@ found_in (found ∷ earlier) now = found
 abbrev pub rewrite_file : ℕ → FileId
 rewrite_file seq = record { queue = Rewrite; seq = seq }
 
--- .. and then that records of these files of the Rewrite queue were applied, one after the other
+-- these events, and then that records of these files of the Rewrite queue were applied, in order
 abbrev pub with_applied : List ℕ → List Event → List Event
 with_applied [] told = told
 with_applied (seq ∷ later) told = with_applied later (event.Apply (rewrite_file seq) ∷ told)

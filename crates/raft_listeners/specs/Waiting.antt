@@ -15,6 +15,7 @@ pub record Waiting : Type 0 where
   pub first : ℕ
   pub counts : List ℕ
 
+-- the files that a hook holds
 abbrev pub waiting_of : PurgeHook → Waiting
 waiting_of hook = record { first = hook.first; counts = hook.counts.items }
 
@@ -26,6 +27,7 @@ room_of hook = deque_capacity hook.counts - deque_len hook.counts
 abbrev pub end_of : Waiting → ℕ
 end_of files = files.first + length files.counts
 
+-- whether a hook holds this file
 abbrev pub is_held : Waiting → ℕ → Bool
 is_held files seq = nat_le files.first seq && nat_lt seq (end_of files)
 
@@ -45,11 +47,11 @@ with_file files seq = record {
   counts = files.counts ++ 0 ∷ [];
 }
 
--- the count of a held file may be one more ..
+-- the count of a held file may be one more
 abbrev pub can_raise : Waiting → ℕ → Bool
 can_raise files seq = is_held files seq && nat_lt (waiting_at files seq) (2 ^ 64 - 1)
 
--- .. or one less
+-- the count of a held file may be one less
 abbrev pub can_lower : Waiting → ℕ → Bool
 can_lower files seq = is_held files seq && nat_lt 0 (waiting_at files seq)
 
@@ -77,6 +79,7 @@ IsFirstWaiting files found = MatchOption found (All (λ n. n ≡ 0) files.counts
     (is_held files seq ≡ true) × (0 < waiting_at files seq)
     × AllWithin (λ n. n ≡ 0) files.counts 0 (seq - files.first))
 
+-- whether it is the Append queue
 abbrev pub is_append : LogQueue → Bool
 is_append Append = true
 is_append Rewrite = false

@@ -14,12 +14,15 @@ use Rattle.raft_memory.specs.contracts.armed.FsCall as declared_call
 abbrev pub Arm : Type 0
 Arm = FsCall × ℕ × IoKind
 
+-- an armed refusal, as clauses see it
 abbrev pub arm_of : ArmedRefusal → Arm
 arm_of refusal = (refusal.call, refusal.left, refusal.kind)
 
+-- armed refusals, as clauses see them
 abbrev pub arms_of : List ArmedRefusal → List Arm
 arms_of refusals = map arm_of refusals
 
+-- whether both are the same call
 abbrev pub same_call : FsCall → FsCall → Bool
 same_call a b = sameb declared_call.the_type a b
 
@@ -44,7 +47,7 @@ due_kind call arms = option_map (λ arm. arm.2) (find (is_due call) arms)
 abbrev pub arms_after_block : List Arm → List Arm
 arms_after_block arms = arms_after NewReader (arms_after FileSize (arms_after Open arms))
 
--- .. and the first kind that is due at one of them
+-- the first fault that is due at one of the calls that a block's read stands for
 abbrev pub due_in_block : List Arm → Option IoKind
 due_in_block arms = option_or (option_or (due_kind Open arms)
     (due_kind FileSize (arms_after Open arms)))

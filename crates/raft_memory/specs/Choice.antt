@@ -38,6 +38,7 @@ abbrev pub choice_for : List Choice → List Path → Path → Choice
 choice_for choices paths path = slice_index_or choices (position_or_len (bytes_eq path) paths)
     choice.Synced
 
+-- what the choice leaves of a file; no bytes if there is none
 abbrev pub bytes_by_choice_at : Choice → Option File → List ℕ
 bytes_by_choice_at c None = []
 bytes_by_choice_at c (Some file) = bytes_by_choice c file
@@ -52,7 +53,7 @@ abbrev pub NamesNoBytes : Choice → Type 0
 NamesNoBytes (choice.Bytes bytes) = ⊥
 NamesNoBytes _ = Unit {0}
 
--- .. and so does each of these
+-- NamesNoBytes, of each of these choices
 abbrev pub NameNoBytes : List Choice → Type 0
 NameNoBytes choices = All NamesNoBytes choices
 

@@ -22,6 +22,7 @@ Stands R (Some file) (Some copy) = R file copy
 Stands R None (Some copy) = ⊥
 Stands R (Some file) None = ⊥
 
+-- the file with this path in the list
 abbrev pub at_path : Path → List (String Global × File) → Option File
 at_path p es = lookup (tree.is_at (λ k. slice_cmp nat_cmp p (string_bytes k))) es
 

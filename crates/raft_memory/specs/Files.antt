@@ -10,9 +10,11 @@ use Rattle.raft_env.specs.Directory.{Directory, HasFile, Path, is_on_way}
 use Rattle.raft_env.specs.declared.env.FsFault.{FsFault}
 use Rattle.raft_memory.specs.declared.namespace.Namespace.{Namespace}
 
+-- files by their paths
 abbrev pub Files : Type 0
 Files = BTreeMap (String Global) File
 
+-- these files by the bytes of their paths
 abbrev pub by_bytes : List (String Global × File) → List (Path × File)
 by_bytes [] = []
 by_bytes (e ∷ es) = (string_bytes e.0, e.1) ∷ by_bytes es
@@ -21,12 +23,14 @@ by_bytes (e ∷ es) = (string_bytes e.0, e.1) ∷ by_bytes es
 abbrev pub folders_of : List (String Global) → Path → Bool
 folders_of made q = (length q == 0) || list_any (λ p. is_on_way q (string_bytes p)) made
 
+-- the directory of these files and folders
 abbrev pub directory_of : Files → (Path → Bool) → Directory
 directory_of files is_folder = record {
   files = finite.from_entries (by_bytes files.entries);
   is_folder = is_folder;
 }
 
+-- the directory of a namespace
 abbrev pub namespace_directory : Namespace → Directory
 namespace_directory n = directory_of n.files (folders_of n.folders.items)
 

@@ -38,6 +38,7 @@ CountsCall result old new = CountsRefusalOf result (memory_refusals old) (memory
 abbrev pub free_in : BTreeMap (String Global) ℕ → Path → ℕ
 free_in given folder = unwrap_or (get_by_text given folder) (2 ^ 64 - 1)
 
+-- how much room a folder has
 abbrev pub memory_free : MemoryFileSystem → Path → ℕ
 memory_free memory = free_in memory.free
 
@@ -73,7 +74,7 @@ abbrev pub half_written : Path → ℕ → List ℕ → Directory → Directory
 half_written path at given n = update_file path (λ f. file_after_write at given false
     (overlay f.now at (take (length given / 2) given)) f) n
 
--- .. if there is room for all of them
+-- half_written, if there is room for all of the bytes
 abbrev pub half_left : Path → ℕ → List ℕ → Directory → Directory
 half_left path at given n = if nat_le (at + length given) (2 ^ 62) then half_written path at given n
     else n

@@ -23,6 +23,7 @@ before_image_in (p ∷ places) bytes i =
     if is_within p.0 p.1 i then Some (slice_index bytes (i - p.0))
     else before_image_in places (drop p.1 bytes) i
 
+-- the byte before the change, if it is saved
 abbrev pub before_image_at : BeforeImages → ℕ → Option ℕ
 before_image_at saved = before_image_in saved.0 saved.1
 

@@ -9,6 +9,7 @@ abbrev pub is_old : GroupUse → ℕ → Bool
 is_old group compact_watermark = nat_lt 0 group.rewritten
     || option_map_or (λ first. nat_lt first compact_watermark) group.first_file false
 
+-- the group is old and has many entries before
 abbrev pub is_old_and_heavy : GroupUse → ℕ → Bool
 is_old_and_heavy group compact_watermark = is_old group compact_watermark && group.has_many_before
 

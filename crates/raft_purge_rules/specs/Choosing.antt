@@ -53,6 +53,7 @@ abbrev pub choice_in : Option Watermarks → Bool → MemTable → Choice
 choice_in None is_due t = no_choice
 choice_in (Some w) is_due t = choice (use_of w.rewrite t) w.compact is_due
 
+-- what is decided about a group
 abbrev pub decision : ℕ → Needs → Bool → MemTable → Decision
 decision group needs is_due t = record {
   group = group;

@@ -17,7 +17,7 @@ abbrev pub rounds_after : Option Watermarks → Bool → ℕ → ℕ
 rounds_after None is_asked rounds = rounds
 rounds_after (Some w) is_asked rounds = next_round is_asked rounds
 
--- .. of each group, where this was decided; none stands for the counts before
+-- rounds_after, of each group, by these decisions; `None` are the counts before
 abbrev pub AreNextRounds : Option Watermarks → List Decision → Rounds → Option Rounds → Type 0
 AreNextRounds append ds rounds next = (group : ℕ) → rounds_of (unwrap_or next rounds) group
     ≡ rounds_after append (list_any (λ one. one == group) (groups_by Heavy ds)) (rounds_of rounds group)

@@ -124,7 +124,7 @@ pub(crate) struct Prefilled {
     pub after: &'static [(&'static str, Option<usize>)],
 }
 
-/// The number of spare files, or a failure with `Io`.
+/// The paths of the spare files, or a failure with `Io`.
 pub(crate) enum Answer {
     Spare(&'static [&'static str]),
     Refused,

@@ -16,6 +16,6 @@ pub record IsCut (front back : List Batch) : Type 0 where
   pub incomplete : is_complete (places_in id tail) ≡ false
   pub apart : ShareNoGroup (front ++ tail) rest
 
--- .. wherever the list is cut
+-- IsCut, wherever the list is cut
 abbrev pub StandTogether : List Batch → Type 0
 StandTogether batches = (front back : List Batch) → batches ≡ front ++ back → IsCut front back

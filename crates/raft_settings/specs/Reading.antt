@@ -20,6 +20,7 @@ abbrev pub whole_of : Data → Option ℕ
 whole_of (integer (pos number)) = Some number
 whole_of _ = None
 
+-- a size of so many bytes
 abbrev pub of_bytes : ℕ → ReadableSize
 of_bytes bytes = record { 0 = bytes }
 
@@ -29,10 +30,12 @@ size_of (integer (pos bytes)) = Some (of_bytes bytes)
 size_of (string text) = option_map of_bytes (size_in text)
 size_of _ = None
 
+-- the version of this number
 abbrev pub version_numbered : ℕ → Option Version
 version_numbered number =
     if number == 1 then Some V1 else if number == 2 then Some V2 else None
 
+-- the version that a value says
 abbrev pub version_of : Data → Option Version
 version_of (integer (pos number)) = version_numbered number
 version_of _ = None
@@ -46,6 +49,7 @@ mode_named name =
     else if bytes_eq name (codes "tolerate-any-corruption") then Some TolerateAnyCorruption
     else None
 
+-- the recovery mode that a value says
 abbrev pub mode_of : Data → Option RecoveryMode
 mode_of (string name) = mode_named name
 mode_of _ = None
@@ -59,7 +63,7 @@ abbrev pub changed_to : {A : Type 0} → (Data → Option A) → A → Option Da
 changed_to read old None = Some old
 changed_to read old (Some value) = read value
 
--- .. by the value of a key
+-- what a setting becomes by the value of its key
 abbrev pub setting : {A : Type 0} → Members → List ℕ → (Data → Option A) → A → Option A
 setting table key read old = changed_to read old (get_member key table)
 
@@ -115,15 +119,16 @@ IsTableRefusal table old (fault.InvalidArgument key) = (new : Config) → Change
 IsTableRefusal table old fault.Memory = Unit {0}
 IsTableRefusal table old _ = ⊥
 
--- .. and so is a text
+-- a text is refused if it makes no settings of others, or if memory runs out
 abbrev pub IsReadRefusal : List ℕ → Config → Fault → Type 0
 IsReadRefusal text old (fault.InvalidArgument reason) = (new : Config) → Reads text old new → ⊥
 IsReadRefusal text old fault.Memory = Unit {0}
 IsReadRefusal text old _ = ⊥
 
--- .. over the default ones
+-- a text makes these settings of the default ones
 abbrev pub ReadsAlone : List ℕ → Config → Type 0
 ReadsAlone text new = (default : Config) → IsDefault default → Reads text default new
 
+-- IsReadRefusal, over the default settings
 abbrev pub IsLoneReadRefusal : List ℕ → Fault → Type 0
 IsLoneReadRefusal text e = (default : Config) → IsDefault default → IsReadRefusal text default e

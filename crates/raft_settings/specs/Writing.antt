@@ -22,7 +22,7 @@ with_member key value (member other held rest) = match_ordering (slice_cmp nat_c
     (member other value rest)
     (member other held (with_member key value rest))
 
--- .. if there is a value
+-- with_member, if there is a value
 abbrev pub with_setting : List ℕ → Option Data → Members → Members
 with_setting key None table = table
 with_setting key (Some value) table = with_member key value table
@@ -35,18 +35,22 @@ size_text bytes =
     else if not (bytes % 2 ^ 30 == 0) then decimal (bytes / 2 ^ 20) ++ codes "MB"
     else decimal (bytes / 2 ^ 30) ++ codes "GB"
 
+-- a size as text
 abbrev pub size_data : ReadableSize → Data
 size_data size = string (size_text size.0)
 
+-- the name of a recovery mode
 abbrev pub mode_name : RecoveryMode → List ℕ
 mode_name AbsoluteConsistency = codes "absolute-consistency"
 mode_name TolerateTailCorruption = codes "tolerate-corrupted-tail-records"
 mode_name TolerateAnyCorruption = codes "tolerate-any-corruption"
 
+-- the number of a version
 abbrev pub version_number : Version → ℕ
 version_number V1 = 1
 version_number V2 = 2
 
+-- a number as data
 abbrev pub number_data : ℕ → Data
 number_data number = integer (pos number)
 
@@ -60,7 +64,7 @@ with_recovery c table =
     (with_setting (codes "spill-dir") (option_map (λ d. string (string_bytes d)) c.spill_dir)
     (with_setting (codes "dir") (Some (string (string_bytes c.dir))) table))))
 
--- .. of files and their purge
+-- the keys of files and their purge
 abbrev pub with_files : Config → Members → Members
 with_files c table =
     with_setting (codes "purge-rewrite-garbage-ratio")
@@ -72,7 +76,7 @@ with_files c table =
     (with_setting (codes "format-version") (Some (number_data (version_number c.format_version)))
     table))))
 
--- .. of files that are used again, and of those that are read and ignored
+-- the keys of files that are used again, and those that are read and ignored
 abbrev pub with_recycling : Config → Members → Members
 with_recycling c table =
     with_setting (codes "prefill-limit") (option_map size_data c.prefill_limit)
@@ -90,14 +94,16 @@ abbrev pub Fits : Option ReadableSize → Type 0
 Fits None = Unit {0}
 Fits (Some size) = size.0 < 2 ^ 64
 
--- .. each of those that are written with recovery, with files and with recycling
+-- the sizes of with_recovery are u64
 abbrev pub RecoveryFits : Config → Type 0
 RecoveryFits c = Fits (Some c.recovery_read_block_size)
 
+-- the sizes of with_files are u64
 abbrev pub FilesFit : Config → Type 0
 FilesFit c = Fits (Some c.target_file_size) × Fits (Some c.purge_threshold)
     × Fits c.purge_rewrite_threshold
 
+-- the sizes of with_recycling are u64
 abbrev pub RecyclingFits : Config → Type 0
 RecyclingFits c = Fits c.bytes_per_sync × Fits c.memory_limit × Fits c.prefill_limit
 

@@ -13,9 +13,11 @@ lesser_in Append Rewrite least seq = least
 lesser_in Rewrite Append least seq = least
 lesser_in Rewrite Rewrite least seq = min least seq
 
+-- the lesser of a number and the file's, if the file is of the queue
 abbrev pub lesser_file : LogQueue → ℕ → FileId → ℕ
 lesser_file queue least id = lesser_in queue id.queue least id.seq
 
+-- the lesser of a number and the place's file, if that is of the queue
 abbrev pub lesser_place : LogQueue → ℕ → EntryPlace → ℕ
 lesser_place queue least place =
     unwrap_or (option_map (λ block. lesser_file queue least block.id) place.block) least
@@ -37,6 +39,7 @@ is_in_order Rewrite Append seq other = true
 is_in_order Append Rewrite seq other = false
 is_in_order Append Append seq other = nat_le seq other
 
+-- whether the place is in the last file's queue, at or before that file
 abbrev pub is_up_to : FileId → EntryPlace → Bool
 is_up_to last place = unwrap_or
     (option_map (λ block. is_in_order block.id.queue last.queue block.id.seq last.seq) place.block)

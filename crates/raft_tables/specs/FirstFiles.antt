@@ -10,14 +10,17 @@ use Rattle.raft_tables.specs.Tables.{Tables, or_empty}
 use Rattle.raft_tables.specs.declared.memtable.MemTable.{MemTable}
 use Rattle.raft_tables.specs.declared.memtables.MemTables.{MemTables}
 
+-- the first file of a queue that has a value of these keys, or this bound
 abbrev pub first_of_keys : LogQueue → ℕ → Keys → ℕ
 first_of_keys queue at_most keys =
     fold (λ least s. lesser_file queue least s.id) at_most (hash.values keys)
 
+-- the first file of a queue that a group refers to, or this bound
 abbrev pub first_of_table : LogQueue → ℕ → MemTable → ℕ
 first_of_table queue at_most t =
     first_of_keys queue (first_of_entries queue at_most (placed_entries t.entries)) t.keys
 
+-- the first file of a queue that any group refers to, or this bound
 abbrev pub first_of_tables : LogQueue → ℕ → MemTables → ℕ
 first_of_tables queue at_most m =
     fold (λ least t. first_of_table queue least t) at_most (hash.values m.tables)

@@ -15,6 +15,7 @@ abbrev pub bound_after : ℕ → Option GroupMark → ℕ
 bound_after bound None = bound
 bound_after bound (Some mark) = max bound (mark.id + 1)
 
+-- the id of the mark, if there is one, is below the bound
 abbrev pub IsBelow : ℕ → Option GroupMark → Type 0
 IsBelow bound None = Unit {0}
 IsBelow bound (Some mark) = mark.id < bound

@@ -32,7 +32,7 @@ abbrev pub tables_moved_by : Option ℕ → FileId → Tables → PlacedItem →
 tables_moved_by watermark id t item =
     with_table item.group (table_moved watermark id item.content (t item.group)) t
 
--- .. after items, in order
+-- the tables after items that were written again, in order
 abbrev pub tables_moved : Option ℕ → FileId → Tables → List PlacedItem → Tables
 tables_moved watermark id t items = fold (tables_moved_by watermark id) t items
 
@@ -73,7 +73,7 @@ stats_moved_by watermark id t item stats = record {
       count_after Rewrite (left_again watermark id item.content (t item.group)) stats.deleted;
 }
 
--- .. after items, in order
+-- the counters after items that were written again, in order
 abbrev pub stats_moved : Option ℕ → FileId → Tables → List PlacedItem → GlobalStats → GlobalStats
 stats_moved watermark id t [] stats = stats
 stats_moved watermark id t (item ∷ items) stats =

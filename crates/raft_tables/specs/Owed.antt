@@ -16,6 +16,7 @@ pub record Marks : Type 0 where
   -- and these keys deleted
   pub deleted : List ℕ → Bool
 
+-- no mark is owed
 abbrev pub no_marks : Marks
 no_marks = record { cleaned = false; compacted = false; deleted = λ _. false }
 
@@ -23,9 +24,11 @@ no_marks = record { cleaned = false; compacted = false; deleted = λ _. false }
 abbrev pub clean_marks : Marks
 clean_marks = record { cleaned = true; compacted = false; deleted = λ _. false }
 
+-- a compaction is owed too
 abbrev pub with_compaction : Marks → Marks
 with_compaction m = record m { compacted = true }
 
+-- a delete of this key is owed too
 abbrev pub with_delete : List ℕ → Marks → Marks
 with_delete key m = record m { deleted = λ k. bytes_eq k key || m.deleted k }
 
@@ -75,9 +78,11 @@ marks_then older newer = if newer.cleaned then newer else record {
 abbrev pub without_delete : List ℕ → Marks → Marks
 without_delete key m = record m { deleted = λ k. not (bytes_eq k key) && m.deleted k }
 
+-- the marks without the clean
 abbrev pub without_clean : Marks → Marks
 without_clean m = record m { cleaned = false }
 
+-- the marks without the compaction
 abbrev pub without_compaction : Marks → Marks
 without_compaction m = record m { compacted = false }
 
@@ -94,11 +99,12 @@ marks_noted (Plain (Compact index)) m = with_compaction m
 marks_noted (Plain (Put key value)) m = m
 marks_noted (Plain (Delete key)) m = with_delete key m
 
--- .. after an item, and after items in order
+-- what is owed after an item that leaves no hole
 abbrev pub owed_noted_by : Owed → PlacedItem → Owed
 owed_noted_by owed item =
     with_marks item.group (marks_noted item.content (owed item.group)) owed
 
+-- what is owed after such items, in order
 abbrev pub owed_noted : Owed → List PlacedItem → Owed
 owed_noted owed items = fold owed_noted_by owed items
 

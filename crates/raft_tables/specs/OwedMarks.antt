@@ -46,7 +46,7 @@ deletes_of t group (k ∷ keys) =
     then deletes_of t group keys
     else record { group = group; content = Delete k.items } ∷ deletes_of t group keys
 
--- .. of each group
+-- a delete of each key that isn't there, of each group
 abbrev pub all_deletes : Tables → List (ℕ × BTreeSet (Vec ℕ Global)) → List Item
 all_deletes t [] = []
 all_deletes t (e ∷ es) = deletes_of t e.0 (set.keys e.1) ++ all_deletes t es

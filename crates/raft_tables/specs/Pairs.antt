@@ -13,9 +13,11 @@ use Rattle.raft_tables.specs.declared.memtable.MemTable.{MemTable}
 use Rattle.raft_tables.specs.declared.memtables.MemTables.{MemTables}
 use Rattle.raft_tables.specs.declared.pairs.Pair.{Pair}
 
+-- the older table of a pair, as a view
 abbrev pub older_table : Pair → TableView
 older_table p = table_of p.older
 
+-- the newer table of a pair, as a view
 abbrev pub newer_table : Pair → TableView
 newer_table p = table_of p.newer
 
@@ -63,6 +65,7 @@ pub record IsPairJoined (before after : Pair) : Type 0 where
 abbrev pub WasJoined : Pair → Type 0
 WasJoined p = (left : ℕ) × (p.left ≡ Ok left)
 
+-- how many left; none if memory ran out
 abbrev pub left_of_result : Result ℕ AllocError → ℕ
 left_of_result (Ok left) = left
 left_of_result (Err e) = 0
@@ -73,7 +76,7 @@ paired_total [] = 0
 paired_total (p ∷ ps) =
     rewritten_in (older_table p) + rewritten_in (newer_table p) + paired_total ps
 
--- .. and of joined ones, with what left
+-- how many entries and values of joined tables are in the Rewrite queue, with those that left
 abbrev pub joined_total : List Pair → ℕ
 joined_total [] = 0
 joined_total (p ∷ ps) =

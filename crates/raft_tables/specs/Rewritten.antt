@@ -112,12 +112,12 @@ state_after None place = if bytes_eq place first_place then Some Begun else None
 state_after (Some Begun) place = if bytes_eq place last_place then Some Complete else Some Begun
 state_after (Some Complete) place = Some Complete
 
--- .. after a batch: its place bytes where it is one of the group, and else none
+-- what was seen of a group after a batch, by its place bytes; a batch of another group has none
 abbrev pub state_after_place : Option GroupState → Option (List ℕ) → Option GroupState
 state_after_place state None = state
 state_after_place state (Some place) = state_after state place
 
--- .. after batches
+-- what was seen of a group after batches
 abbrev pub state_in : ℕ → Option GroupState → List PlacedBatch → Option GroupState
 state_in id state batches =
     fold (λ s b. state_after_place s (place_by id (placed_mark b))) state batches

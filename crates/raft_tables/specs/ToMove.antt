@@ -21,12 +21,12 @@ value_bytes watermark s = if may_move watermark s.id then length s.value.items e
 abbrev pub bytes_of_entries : Option ℕ → List (ℕ × EntryPlace) → ℕ
 bytes_of_entries watermark es = sum_by (λ e. entry_bytes watermark e.1) es
 
--- .. and of a table
+-- how many bytes of a table a rewriting up to the watermark moves
 abbrev pub bytes_of_table : Option ℕ → MemTable → ℕ
 bytes_of_table watermark t = bytes_of_entries watermark (placed_entries t.entries)
     + sum_by (value_bytes watermark) (hash.values t.keys)
 
--- .. and of a group, which is none of an unknown one
+-- how many bytes of a group such a rewriting moves; none of an unknown group
 abbrev pub bytes_of_group : Option ℕ → MemTables → ℕ → ℕ
 bytes_of_group watermark m group =
     unwrap_or (option_map (bytes_of_table watermark) (hash.get nat_eq m.tables group)) 0

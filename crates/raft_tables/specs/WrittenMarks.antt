@@ -31,10 +31,11 @@ marks_left (Compact index) m = without_compaction m
 marks_left (Put key value) m = m
 marks_left (Delete key) m = without_delete key m
 
+-- what is owed once this mark is written
 abbrev pub owed_left_by : Owed → Item → Owed
 owed_left_by owed item = with_marks item.group (marks_left item.content (owed item.group)) owed
 
--- .. once these are, in order
+-- what is owed once these marks are written, in order
 abbrev pub owed_left : Owed → List Item → Owed
 owed_left owed items = fold owed_left_by owed items
 
@@ -54,6 +55,7 @@ kind_of (Compact index) = 3
 kind_of (Put key value) = 0
 kind_of (Delete key) = 2
 
+-- the key of a content; empty if it has none
 abbrev pub key_in : Content → List ℕ
 key_in (Entries entries) = []
 key_in Clean = []
@@ -61,6 +63,7 @@ key_in (Compact index) = []
 key_in (Put key value) = key
 key_in (Delete key) = key
 
+-- the order in which marks are written: by kind, then by group, then by key
 abbrev pub mark_cmp : Item → Item → Ordering
 mark_cmp a b = ordering_then (nat_cmp (kind_of a.content) (kind_of b.content))
     (ordering_then (nat_cmp a.group b.group)

@@ -52,8 +52,8 @@ pub(crate) struct Changes {
     /// The groups of the Append queue's new records.
     pub groups: BTreeMap<u64, GroupGrowth>,
     pub dropped: Vec<Dropped>,
-    /// The number of files that were made and dropped between two looks. Gaps in the numbers show
-    /// them.
+    /// The number of files that were made and dropped between two looks, by the numbers of the
+    /// first files.
     pub unseen: u64,
 }
 

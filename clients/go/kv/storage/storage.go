@@ -1,4 +1,4 @@
-// Package storage is where a node keeps the Raft state of its groups.
+// Package storage keeps the Raft state of a node's groups.
 package storage
 
 import (
@@ -6,7 +6,7 @@ import (
 	pb "go.etcd.io/etcd/raft/raftpb"
 )
 
-// A Change is what one Ready of a group has to be kept.
+// A Change has what a Ready of a group asks to save.
 type Change struct {
 	Group    uint64
 	State    pb.HardState
@@ -25,19 +25,19 @@ type Compaction struct {
 // A Store keeps the Raft state of many groups. After an error of Save, Compact or Purge nothing
 // more is written: the node stops, and what was kept before is found when it is opened again.
 type Store interface {
-	// Identity answers what SetIdentity kept, or nothing in a new store.
+	// Identity returns what SetIdentity kept, or nothing in a new store.
 	Identity() ([]byte, error)
 	// SetIdentity keeps bytes that tell whose store this is, with a sync.
 	SetIdentity(identity []byte) error
-	// Group answers the storage of a group, which is begun where it is missing.
+	// Group returns the storage of a group; a new group begins empty.
 	Group(group uint64) (raft.Storage, error)
-	// Save keeps the changes of a round, each group's whole or not at all, and syncs where one of
-	// them must. A group has at most one change.
+	// Save keeps the changes of a round, each group's whole or not at all, and syncs if one of them
+	// must be synced. A group has at most one change.
 	Save(changes []Change) error
 	// Compact keeps a snapshot at an entry that was applied, and drops entries.
 	Compact(c Compaction) error
-	// Purge frees the room of what was dropped, beside the other calls. It answers the groups whose
-	// old entries keep room from being freed.
+	// Purge frees the space of what was dropped. Other calls may run meanwhile. It returns the
+	// groups whose old entries keep space from being freed.
 	Purge() ([]uint64, error)
 	// Close syncs and closes.
 	Close() error

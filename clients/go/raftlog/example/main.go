@@ -41,7 +41,7 @@ func turn(engine *raftlog.Engine, group, last uint64) error {
 		return err
 	}
 
-	old, err := engine.PurgeExpiredFiles() // now and then: free log files
+	old, err := engine.PurgeInShortCalls(1 << 20) // now and then: free log files
 	if err != nil {
 		return err
 	}

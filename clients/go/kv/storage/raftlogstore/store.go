@@ -17,6 +17,9 @@ const Settings = `target-file-size = "8MB"
 purge-threshold = "64MB"
 `
 
+// A call of a purge writes at most so many bytes. The node saves between two calls.
+const purgeBudget = 1 << 20
+
 // The group of the identity; those of the store's users begin with 1.
 const identityGroup = 0
 
@@ -27,7 +30,7 @@ type store struct {
 	groups map[uint64]*etcdstorage.Storage
 }
 
-// Open opens the log in a folder, which is made where it is missing, by settings in TOML.
+// Open opens the log in a folder, by settings in TOML; a missing folder is made.
 func Open(folder, settings string) (storage.Store, error) {
 	log, err := raftlog.Open(folder, settings)
 	if err != nil {
@@ -72,9 +75,9 @@ func (s *store) Compact(c storage.Compaction) error {
 	return group.CompactKeeping(metadata.Index, c.First, metadata.ConfState, c.Snapshot.Data)
 }
 
-func (s *store) Purge() ([]uint64, error) { return s.log.PurgeExpiredFiles() }
+func (s *store) Purge() ([]uint64, error) { return s.log.PurgeInShortCalls(purgeBudget) }
 
-// Stats tells what the log did.
+// Stats returns what the log has done since it was opened.
 func (s *store) Stats() (raftlog.Stats, error) { return s.log.Stats() }
 
 func (s *store) Close() error { return s.log.Close() }
