@@ -3,6 +3,7 @@
 
 mod arguments;
 mod arranging;
+mod building;
 mod change_forms;
 mod completion;
 mod escaping;

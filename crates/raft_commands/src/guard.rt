@@ -1,4 +1,5 @@
-//! What the opening before a change would lose: the change is refused, or what is lost is kept.
+//! Before a change: if its opening would lose something, the change is refused, or the lost bytes
+//! are kept.
 
 use crate::changed::ChangedFiles;
 use crate::opening::broken;
@@ -14,9 +15,9 @@ use raft_opening_plan::{Change, Item, Kind, Plan, Row};
 use raft_records::{Fault, LogQueue};
 use std::alloc::Global;
 
-/// What is told where a change is refused.
+/// The text of a refused change.
 const REFUSED: &str = "nothing was done: the plan above says what mends it, `check` prints more, \
-    and `--cut` goes on and loses what the plan says";
+    and `--cut` continues and loses what the plan says";
 
 /// The same for a repair, which is refused for files that it doesn't cut.
 const UNREPAIRED: &str =
@@ -27,7 +28,7 @@ const UNREPAIRED: &str =
 /// How often strays are moved aside.
 const MOST_STRAYS: u64 = 1000;
 
-/// The log files before an opening, and what it does with them.
+/// The log files before an opening, and its plan for them.
 struct Survey {
     queues: BothQueues,
     plan: Plan,
@@ -62,7 +63,7 @@ pub(crate) fn guard<F: FileSystem + ChangedFiles>(
     }
 }
 
-// What went wrong, after the files that keep something are deleted or told.
+// The error, after the files that keep something are deleted or printed.
 fn given_back(
     rt: &HostRuntime,
     request: &Request<'_>,
@@ -78,7 +79,7 @@ fn given_back(
     }
 }
 
-// Tells the plan, and whether the change goes on. It fails if the opening would.
+// Prints the plan. Returns whether the change continues. It fails if the opening would.
 fn goes_on<F: FileSystem>(
     rt: &HostRuntime,
     files: &mut F,
@@ -100,7 +101,7 @@ fn goes_on<F: FileSystem>(
     Ok(true)
 }
 
-// Fails if the opening would, and tells the plan.
+// Fails if the opening would, and prints the plan.
 fn check_opens<F: FileSystem>(
     rt: &HostRuntime,
     files: &mut F,
@@ -157,7 +158,7 @@ fn moves_strays(plan: &Plan, request: &Request<'_>) -> bool {
     is_repair && request.options.changing.cut && plan.has(Kind::Stray)
 }
 
-// The lock is held, so that the look at the folder tells of a writer.
+// The lock is held, so the look at the folder reports a writer.
 fn survey_files<F: FileSystem>(
     rt: &HostRuntime,
     files: &mut F,

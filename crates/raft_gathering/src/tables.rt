@@ -1,4 +1,4 @@
-//! What the records that were read stand for: of each group its entries, with their gaps, and its
+//! The contents of the records that were read: the entries of each group with their gaps, and its
 //! keys.
 
 use raft_records::{Command, EntryIndex, Fault, KeyValue, LogItem, LogItemContent};
@@ -6,7 +6,7 @@ use raft_whole_records::{WholeRecord, is_mark_key};
 use std::alloc::{AllocError, Global};
 use std::collections::BTreeMap;
 
-/// The value at a key, and whether it may be older than what was lost.
+/// The value at a key, and whether it may be older than a lost one.
 pub struct Kept {
     pub value: Vec<u8>,
     /// How many places could not be read before it was written.
@@ -43,7 +43,7 @@ impl Drop for Run {
 }
 
 impl Run {
-    /// The index behind the last one.
+    /// The index after the last one.
     pub fn end(&self) -> u64 {
         self.first.saturating_add(self.entries.len() as u64)
     }
@@ -69,7 +69,7 @@ impl Drop for Group {
 pub struct Tables {
     alloc: Global,
     pub groups: BTreeMap<u64, Group>,
-    /// How many places could not be read so far.
+    /// The number of places that could not be read until now.
     pub losses: u64,
 }
 
@@ -97,7 +97,7 @@ impl Tables {
         self.losses = self.losses.saturating_add(1);
     }
 
-    /// Whether a key's value may be older than what was lost.
+    /// Whether a key's value may be older than a lost one.
     pub fn is_older(&self, kept: &Kept) -> bool {
         kept.is_changed || kept.losses < self.losses
     }
@@ -119,8 +119,7 @@ impl Tables {
         Ok(())
     }
 
-    /// Applies what is known of a record of which the entries can't be read: it removed entries, or
-    /// changed keys.
+    /// Applies a record whose entries can't be read: it removed entries, or changed keys.
     pub fn apply_lost(&mut self, items: &[LogItem]) -> Result<(), Fault> {
         for item in items {
             let group = self.group(item.raft_group_id)?;
