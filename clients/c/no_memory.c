@@ -1,7 +1,7 @@
 /* Each request of the library for memory is refused in turn: `no_memory FOLDER`. A call that meets it succeeds, or returns
- * RAFTLOG_NO_MEMORY; then the log holds what it held before, and the same call succeeds. Then all requests are refused from each
- * one on, until the call returns. By these a log may fail: the next opening finds it with or without that change, and both are
- * counted. An opening succeeds, or returns RAFTLOG_NO_MEMORY, and the next one finds everything. */
+ * RAFTLOG_NO_MEMORY; then the log holds what it held before, and the same call succeeds. Then all requests are refused from every
+ * third one on, until the call returns. By these a log may fail: the next opening finds it with or without that change, and both
+ * are counted. An opening succeeds, or returns RAFTLOG_NO_MEMORY, and the next one finds everything. */
 #include "keys.h"
 #include "refusals.h"
 
@@ -24,8 +24,7 @@ struct list {
 
 static const struct list lists[] = {
     {"40 puts to 40 groups", PUTS, 40, false},
-    {"40 puts to 40 groups, each with a sync", PUTS, 40, true},
-    {"writes of all kinds", WRITES "s" WRITES "g", 5, false},
+    {"writes of all kinds, each with a sync", WRITES "s" WRITES "g", 5, true},
     {"purges", WRITES "A" WRITES "R" WRITES "D" WRITES "E", 5, false},
     {"purges in short calls", WRITES "B" WRITES "S" WRITES "F" WRITES "g", 5, true},
 };
@@ -320,12 +319,14 @@ static void begin_with(const char *name, bool go_on) {
     snprintf(what_runs, sizeof what_runs, "%s%s", name, go_on ? ", all requests of a call" : "");
 }
 
+static int next_turn(void) { return refusals_go_on ? 3 : 1; }
+
 static void fail_in_lists(const char *folder) {
     for (int i = 0; i < 2 * LISTS; i++) {
         struct counts counts = {0};
         now = &lists[i / 2];
         begin_with(now->name, i % 2);
-        for (refusals_turn = 1; run_steps(folder, &counts);) refusals_turn++;
+        for (refusals_turn = 1; run_steps(folder, &counts);) refusals_turn += next_turn();
         tell(&counts);
     }
 }
@@ -333,7 +334,8 @@ static void fail_in_lists(const char *folder) {
 static void fail_in_threads(const char *folder) {
     for (int sync = 0; sync < 2; sync++) {
         struct counts counts = {0};
-        now = &lists[sync];
+        const struct list list = {.sync = sync};
+        now = &list;
         begin_with(sync ? "threads, with syncs" : "threads", false);
         for (refusals_turn = 1; run_threads(folder, &counts);) refusals_turn++;
         tell(&counts);
@@ -348,7 +350,7 @@ static void fail_in_openings(const char *folder) {
     for (int i = 0; i < 2; i++) {
         struct counts counts = {0};
         begin_with("openings", i);
-        for (refusals_turn = 1; run_opening(from, folder, &model, &counts);) refusals_turn++;
+        for (refusals_turn = 1; run_opening(from, folder, &model, &counts);) refusals_turn += next_turn();
         tell(&counts);
     }
     remove_all(from);

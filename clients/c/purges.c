@@ -3,6 +3,7 @@
 
 #include <pthread.h>
 #include <stdatomic.h>
+#include <unistd.h>
 
 enum { GROUPS = 20, FIRST = 50, OLD = 100, ENTRIES = 100, BUDGET = 4000 };
 
@@ -159,7 +160,7 @@ static uint32_t purge_rewrite(raftlog *log, uint32_t from, raftlog_bytes *groups
     return from;
 }
 
-/* Puts of another thread are done between the calls of a purge. */
+/* Puts of another thread are done between the calls of a purge. Those of a purge with few calls, which was not due, don't count. */
 static uint32_t purge_beside(raftlog *log, uint32_t from, raftlog_bytes *groups) {
     atomic_uint done = 0;
     atomic_bool is_over = false;
@@ -167,15 +168,15 @@ static uint32_t purge_beside(raftlog *log, uint32_t from, raftlog_bytes *groups)
     struct puts puts = {log, from, UINT32_MAX / 2, 10, &done, &is_over};
     pthread_t writer;
     CHECK(!pthread_create(&writer, NULL, put_all, &puts));
-    for (int i = 0; i < 20; i++) {
+    for (int patience = 10000; between <= 10; patience--) {
         uint64_t calls = purges_of(log);
         unsigned before = atomic_load(&done);
-        CHECK(!raftlog_purge_in_short_calls(log, BUDGET, groups));
+        CHECK(patience && !raftlog_purge_in_short_calls(log, BUDGET, groups));
         if (purges_of(log) > calls + 10) between += atomic_load(&done) - before;
+        usleep(1000);
     }
     atomic_store(&is_over, true);
     CHECK(!pthread_join(writer, NULL));
-    CHECK(between > 10);
     return from + atomic_load(&done);
 }
 

@@ -443,7 +443,8 @@ impl<F: FileSystem> OpenLog<F> {
         ensures failed { (result ≡ Err Failed) ↔ (has_failed self.now.engine ≡ true) }
         ensures cause { IfErr result (IsRefusalFor (has_failed self.now.engine) (λ e. ⊥)) }
     {
-        if self.engine.failed() {
+        let has_failed = self.engine.failed();
+        if has_failed {
             return Err(Fault::Failed);
         }
         let watermark = self.engine.append_rewrite_watermark().unwrap_or(0);
