@@ -4,15 +4,16 @@
     spans_refused.py RAFTCTL WORK
 
 The last file of a log is taken away, and then a load gives its number to another file; or the first one is, and a purge drops
-files after it. The first writes of the note SPANS fail, from none to many. Then the note is put back as its last sync left it,
-as a power cut may: `check` must report a loss with 6. Status: 0 if it does each time."""
+files after it. The first writes of the note SPANS fail, from none to some that leave the command a later write or sync. Then
+the note is put back as its last sync left it, as a power cut may: `check` must report a loss with 6. Status: 0 if it does each
+time. Over raft_disk of 77cd550b 7 of the 16 losses are forgotten. If RAFTCTL isn't built, all is left out."""
 import os
 import shutil
 import subprocess
 import sys
 
 SETTINGS = 'target-file-size = "4KB"\npurge-threshold = "64KB"\nenable-log-recycle = false\n'
-KEYS, SIZE, MANY = 60, 400, 12
+KEYS, SIZE = 60, 400
 
 
 class Log:
@@ -64,9 +65,13 @@ def is_remembered(log, which, words, refused):
 
 def main():
     raftctl, work = sys.argv[1:]
+    if not os.path.exists(raftctl):
+        print('no raftctl, refused notes are left out')
+        return 0
+    os.makedirs(work, exist_ok=True)
     log = Log(os.path.abspath(raftctl), work)
-    cases = [(-1, ('load', KEYS, SIZE, '--sync-each', 1, '--cut')), (0, ('rewrite', 'append', '--cut'))]
-    held = [is_remembered(log, which, words, refused) for which, words in cases for refused in range(MANY)]
+    cases = [(-1, ('load', KEYS, SIZE, '--sync-each', 1, '--cut'), 12), (0, ('rewrite', 'append', '--cut'), 4)]
+    held = [is_remembered(log, which, words, refused) for which, words, count in cases for refused in range(count)]
     print(f'{held.count(True)} of {len(held)} losses are remembered')
     return 0 if all(held) else 1
 
