@@ -379,9 +379,10 @@ int raftlog_compact_to(raftlog *log, uint64_t group, uint64_t index, uint64_t *c
  * `raftlog_next_group` (`groups` may be NULL). */
 int raftlog_purge_expired_files(raftlog *log, raftlog_bytes *groups);
 /* The same in short calls, between which other threads read and write. Each call writes again what some groups have in old
- * files: at most `budget` bytes, or one group that has more. 1 MB is a good budget. The last call drops the files. One thing
- * differs: `raftlog_purge_expired_files` returns a group with many old entries, and writes these again only in the tenth
- * purge; this call returns the group too, but writes them again at once. After a failure the calls before it are done. */
+ * files: at most `budget` bytes, or one group that has more. 1 MB is a good budget. The last call has no such limit: it
+ * writes again what has become due meanwhile, and drops the files. One thing differs: `raftlog_purge_expired_files`
+ * returns a group with many old entries, and writes these again only in the tenth purge; this call returns the group too,
+ * but writes them again at once. After a failure the calls before it are done. */
 int raftlog_purge_in_short_calls(raftlog *log, uint64_t budget, raftlog_bytes *groups);
 /* The number of the last file of the Append queue that both calls above would write again now, or RAFTLOG_ABSENT if they
  * would write none. It is the watermark for your own series of `raftlog_must_rewrite_append_groups`. */
@@ -395,10 +396,10 @@ int raftlog_must_rewrite_append_queue(raftlog *log, uint64_t *count);
 int raftlog_must_rewrite_rewrite_queue(raftlog *log, uint64_t *count);
 int raftlog_must_purge_all_stale(raftlog *log, uint64_t *count);
 /* The first of them in short calls, between which others write. It drops no file. It writes again what the groups from
- * `*group` on have in the Append queue's files up to the number `*watermark`: of as many groups as have `budget` bytes
- * there together, but of one group at least, whatever it has. It stores in `*group` the group of the next call, or 0
- * after the last one. If `*watermark` was greater than the number of the last file, it stores that number there. On a
- * failure both stay.
+ * `*group` on have in the Append queue's files up to the number `*watermark`: of as many groups as cost at most `budget`
+ * bytes together, but of one at least. A group costs 64 bytes, and what it has there. It stores in `*group` the group of
+ * the next call, or 0 after the last one. If `*watermark` was greater than the number of the last file, it stores that
+ * number there. On a failure both stay.
  *   uint64_t watermark = UINT64_MAX, group = 0;
  *   do code = raftlog_must_rewrite_append_groups(log, &watermark, &group, 1 << 20);
  *   while (code == RAFTLOG_OK && group);
@@ -408,11 +409,11 @@ int raftlog_must_rewrite_append_groups(raftlog *log, uint64_t *watermark, uint64
 
 /* The second of them in short calls, between which others write. The first call, with 0 as `*group`, begins a next
  * file of the Rewrite queue. Each call writes again what the groups from `*group` on have in that queue: of as many
- * groups as have `budget` bytes there together, but of one group at least, whatever it has. It stores the group of the
- * next call, or 0 after the last one. Then the files before are dropped, if each atomic group is together in them, as
- * this library writes it. On a failure `*group` stays. An opening or another purge, by any thread, ends such calls,
- * and a failure may: begin again with 0, else the files before stay. Calls that were left half done are not ended:
- * with 0 they continue with the same next file.
+ * groups as cost at most `budget` bytes together, but of one at least. A group costs 64 bytes, and what it has there. It
+ * stores the group of the next call, or 0 after the last one. Then the files before are dropped, if each atomic group
+ * is together in them, as this library writes it. On a failure `*group` stays. An opening or another purge, by any
+ * thread, ends such calls, and a failure may: begin again with 0, else the files before stay. Calls that were left half
+ * done are not ended: with 0 they continue with the same next file.
  *   uint64_t group = 0;
  *   do code = raftlog_must_rewrite_rewrite_groups(log, &group, 1 << 20);
  *   while (code == RAFTLOG_OK && group); */

@@ -31,7 +31,8 @@ import "C"
 // PurgeInShortCalls purges by the settings' thresholds: call it every few seconds. It writes again what old files still
 // have, and drops these files; while the log is small it does nothing. It returns the groups that have many old entries:
 // compact them. The log's contents stay as they are. Other goroutines read and write between its calls. Each call writes
-// at most budget bytes, or one group that has more; 1 MB is a good budget.
+// at most budget bytes, or one group that has more; 1 MB is a good budget. The last call has no such limit: it writes
+// again what has become due meanwhile, and drops the files.
 func (e *Engine) PurgeInShortCalls(budget uint64) ([]uint64, error) {
 	return e.numbers(func(log *C.raftlog, c *call) C.int {
 		return C.purge_in_short_calls(log, C.uint64_t(budget), &c.bytes, &c.text)
@@ -68,9 +69,10 @@ func (e *Engine) MustRewriteAppendQueue() (uint64, error) {
 }
 
 // MustRewriteAppendGroups is one of a series of short calls, between which others read and write. It writes what the groups
-// from one on have in the Append queue's files up to the number watermark to the Rewrite queue: of as many groups as have
-// budget bytes there together, but of one at least. It returns the watermark and the group for the next call, 0 after the
-// last one. Begin with math.MaxUint64, which means the last file, and 0. MustPurgeAllStale then drops the files.
+// from one on have in the Append queue's files up to the number watermark to the Rewrite queue: of as many groups as cost at
+// most budget bytes together, but of one at least. A group costs 64 bytes, and what it has there. It returns the watermark
+// and the group for the next call, 0 after the last one. Begin with math.MaxUint64, which means the last file, and 0.
+// MustPurgeAllStale then drops the files.
 func (e *Engine) MustRewriteAppendGroups(watermark, group, budget uint64) (uint64, uint64, error) {
 	c, _, err := e.do(func(log *C.raftlog, c *call) C.int {
 		c.first, c.last = C.uint64_t(watermark), C.uint64_t(group)
@@ -84,9 +86,10 @@ func (e *Engine) MustRewriteAppendGroups(watermark, group, budget uint64) (uint6
 }
 
 // MustRewriteRewriteGroups is one of a series of short calls, between which others read and write. It writes what the
-// groups from one on have in the Rewrite queue's files to new files of it: of as many groups as have budget bytes there
-// together, but of one at least. It returns the group for the next call. Begin with 0; it returns 0 after the last call,
-// which drops the old files. An opening or another purge ends the series, and an error may: then begin again with 0.
+// groups from one on have in the Rewrite queue's files to new files of it: of as many groups as cost at most budget bytes
+// together, but of one at least. A group costs 64 bytes, and what it has there. It returns the group for the next call.
+// Begin with 0; it returns 0 after the last call, which drops the old files. An opening or another purge ends the series,
+// and an error may: then begin again with 0.
 func (e *Engine) MustRewriteRewriteGroups(group, budget uint64) (uint64, error) {
 	c, _, err := e.do(func(log *C.raftlog, c *call) C.int {
 		c.first = C.uint64_t(group)

@@ -420,7 +420,8 @@ class Engine:
         """Purges by the settings' thresholds: call it every few seconds. It writes again what old files still have, and drops
         these files; while the log is small it does nothing. Returns the groups that have many old entries: compact them.
         The log's contents stay as they are. Other threads read and write between its calls. Each call writes at most
-        `budget` bytes, or one group that has more."""
+        `budget` bytes, or one group that has more. The last call has no such limit: it writes again what has become due
+        meanwhile, and drops the files."""
         return _numbers(self._read("purge_in_short_calls", c_uint64(budget)))
 
     def purge_expired_files(self):
@@ -440,18 +441,20 @@ class Engine:
 
     def must_rewrite_append_groups(self, watermark, group, budget):
         """One of a series of short calls, between which others read and write. It writes what the groups from one on have in
-        the Append queue's files up to the number `watermark` to the Rewrite queue: of as many groups as have `budget` bytes
-        there together, but of one at least. Returns the watermark and the group for the next call, None after the last one.
-        Begin with 2**64 - 1, which means the last file, and 0. After the last call must_purge_all_stale drops the files."""
+        the Append queue's files up to the number `watermark` to the Rewrite queue: of as many groups as cost at most
+        `budget` bytes together, but of one at least. A group costs 64 bytes, and what it has there. Returns the watermark
+        and the group for the next call, None after the last one. Begin with 2**64 - 1, which means the last file, and 0.
+        After the last call must_purge_all_stale drops the files."""
         watermark, group = c_uint64(watermark), c_uint64(group)
         self._call("must_rewrite_append_groups", byref(watermark), byref(group), c_uint64(budget))
         return watermark.value, group.value or None
 
     def must_rewrite_rewrite_groups(self, group, budget):
         """One of a series of short calls, between which others read and write. It writes what the groups from one on have in
-        the Rewrite queue's files to new files of it: of as many groups as have `budget` bytes there together, but of one at
-        least. Returns the group for the next call. Begin with 0. The last call, which returns None, drops the old files. An
-        opening or another purge ends the series, and a failure may: then begin again with 0."""
+        the Rewrite queue's files to new files of it: of as many groups as cost at most `budget` bytes together, but of one
+        at least. A group costs 64 bytes, and what it has there. Returns the group for the next call. Begin with 0. The last
+        call, which returns None, drops the old files. An opening or another purge ends the series, and a failure may: then
+        begin again with 0."""
         group = c_uint64(group)
         self._call("must_rewrite_rewrite_groups", byref(group), c_uint64(budget))
         return group.value or None

@@ -664,7 +664,8 @@ impl Engine {
     /// Purges by the settings' thresholds: call it every few seconds. It writes again what old files still have, and drops
     /// these files; while the log is small it does nothing. Returns the groups that have many old entries: compact them.
     /// The log's contents stay as they are. Other threads read and write between its calls. Each call writes at most
-    /// `budget` bytes, or one group that has more; 1 MB is a good budget.
+    /// `budget` bytes, or one group that has more; 1 MB is a good budget. The last call has no such limit: it writes
+    /// again what has become due meanwhile, and drops the files.
     pub fn purge_in_short_calls(&self, budget: u64) -> Result<Vec<u64>> {
         let mut groups = Bytes::new();
         self.done(unsafe { sys::raftlog_purge_in_short_calls(self.log, budget, &mut groups.0) })?;
@@ -696,9 +697,10 @@ impl Engine {
     }
 
     /// One of a series of short calls, between which others read and write. It writes what the groups from one on have in
-    /// the Append queue's files up to the number `watermark` to the Rewrite queue: of as many groups as have `budget` bytes
-    /// there together, but of one at least. Returns the watermark and the group for the next call. Begin with `u64::MAX`,
-    /// which means the last file, and 0. After the last call `must_purge_all_stale` drops the files.
+    /// the Append queue's files up to the number `watermark` to the Rewrite queue: of as many groups as cost at most
+    /// `budget` bytes together, but of one at least. A group costs 64 bytes, and what it has there. Returns the watermark
+    /// and the group for the next call. Begin with `u64::MAX`, which means the last file, and 0. After the last call
+    /// `must_purge_all_stale` drops the files.
     pub fn must_rewrite_append_groups(&self, watermark: u64, group: u64, budget: u64) -> Result<(u64, Option<u64>)> {
         let (mut watermark, mut group) = (watermark, group);
         self.done(unsafe { sys::raftlog_must_rewrite_append_groups(self.log, &mut watermark, &mut group, budget) })?;
@@ -706,9 +708,10 @@ impl Engine {
     }
 
     /// One of a series of short calls, between which others read and write. It writes what the groups from one on have in
-    /// the Rewrite queue's files to new files of it: of as many groups as have `budget` bytes there together, but of one at
-    /// least. Returns the group for the next call. Begin with 0. The last call, which returns none, drops the old files. An
-    /// opening or another purge ends the series, and a failure may: then begin again with 0.
+    /// the Rewrite queue's files to new files of it: of as many groups as cost at most `budget` bytes together, but of one
+    /// at least. A group costs 64 bytes, and what it has there. Returns the group for the next call. Begin with 0. The last
+    /// call, which returns none, drops the old files. An opening or another purge ends the series, and a failure may: then
+    /// begin again with 0.
     pub fn must_rewrite_rewrite_groups(&self, group: u64, budget: u64) -> Result<Option<u64>> {
         let mut group = group;
         self.done(unsafe { sys::raftlog_must_rewrite_rewrite_groups(self.log, &mut group, budget) })?;
