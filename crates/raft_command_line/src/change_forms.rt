@@ -59,7 +59,7 @@ pub(crate) static CHANGE_FORMS: [Form; 12] = [
             Word(
                 "lines",
                 Kind::NamedText,
-                "A file whose lines are values, after those named; - for standard input",
+                "A file whose lines are values, behind those named; - for standard input",
             ),
             Word(
                 "at",
@@ -118,7 +118,7 @@ pub(crate) static CHANGE_FORMS: [Form; 12] = [
             Word(
                 "replace",
                 Kind::Flag,
-                "Replaces or removes what the log has; without it an import that would do so writes nothing",
+                "Replaces entries that the log has already; without it an import that would do so writes nothing",
             ),
             NO_SYNC,
             DRY_RUN,
@@ -155,7 +155,7 @@ pub(crate) static CHANGE_FORMS: [Form; 12] = [
     Form {
         name: "rewrite",
         sort: Sort::Rewrite,
-        about: "Rewrites what still counts in log files, drops these files, and prints how many, and which files are kept for reuse",
+        about: "Writes what still counts in log files anew, drops these, and prints how many, and which files are kept to be used again",
         words: &[
             Word(
                 "FILES",

@@ -68,7 +68,7 @@ pub(crate) enum GroupLookSort {
     Entries,
 }
 
-/// A word's name, its kind, and its help text.
+/// A word's name, what it is, and what its help says.
 #[derive(Clone, Copy)]
 pub(crate) struct Word(pub &'static str, pub Kind, pub &'static str);
 
@@ -111,10 +111,10 @@ Statuses:
   4  check, consistency, fork: an opening would cut something off; dump: a file can't be read on;
      import, salvage: not all of the source could be read
   5  check, consistency, fork: an opening would fail
-  6  check, consistency, fork, dump: an opening would pass files over, or files are not read
+  6  check, consistency, fork: an opening would pass files over, or leave out those of a folder
   7  a change was refused, and nothing done: its opening would lose more than an unsynced tail
      explains; look with check, cut and keep with repair, or say --cut. Or an import would
-     replace or remove what the log has: --replace allows it
+     replace entries: --replace allows it
 
 `raftctl help COMMAND` has an example of each command.";
 
@@ -123,7 +123,7 @@ pub(crate) static OPTIONS: [Word; 8] = [
     Word(
         "settings",
         Kind::NamedText,
-        "A file of settings in TOML; otherwise FOLDER/raftlog.toml if it exists",
+        "A file of settings in TOML; else FOLDER/raftlog.toml where that stands",
     ),
     Word(
         "spill",

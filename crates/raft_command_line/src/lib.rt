@@ -3,7 +3,6 @@
 
 mod arguments;
 mod arranging;
-mod building;
 mod change_forms;
 mod completion;
 mod escaping;

@@ -159,7 +159,7 @@ pub(crate) static LOOK_FORMS: [Form; 17] = [
             Word(
                 "count",
                 Kind::Named,
-                "Ends after this number of looks; otherwise runs until it is stopped",
+                "Ends after so many looks; else it goes on until it is stopped",
             ),
             Word(
                 "groups",
@@ -172,7 +172,7 @@ pub(crate) static LOOK_FORMS: [Form; 17] = [
     Form {
         name: "verify",
         sort: Sort::Look(LookSort::Verify),
-        about: "Counts the keys of `load` from 0 on; status 3 if one exists after a gap",
+        about: "Counts the keys of `load` from 0 on; status 3 where one stands after a gap",
         words: &[COUNT, SIZE],
         example: "Example: raftctl log verify 1000000 100",
     },
@@ -197,12 +197,12 @@ pub(crate) static LOOK_FORMS: [Form; 17] = [
     Form {
         name: "salvage",
         sort: Sort::Salvage,
-        about: "Reads every whole record of the folder's files, also after broken ones and in .cut-N and .passed files, into a new log; the folder stays as it is; status 4 if something could not be read",
+        about: "Reads every whole record of the folder's files, also behind broken ones and in .cut-N and .passed files, into a new log; the folder stays as it is; status 4 if something could not be read",
         words: &[
             Word(
                 "TARGET",
                 Kind::Text,
-                "The folder of the new log, which may not exist or is empty, outside this log's",
+                "The folder of the new log, which may not exist or is empty",
             ),
             Word(
                 "FILE",

@@ -1,4 +1,4 @@
-//! The request to the program.
+//! What the program is asked to do.
 
 use raft_base::ReadableSize;
 use raft_config::{Config, RecoveryMode};
@@ -9,7 +9,7 @@ pub struct Request<'a> {
     pub folder: &'a str,
     pub options: Options<'a>,
     pub verb: Verb<'a>,
-    /// Whether the change is synced and the log closed.
+    /// Whether what is changed is synced, and the log closed.
     pub sync: bool,
 }
 
@@ -35,7 +35,7 @@ pub struct Options<'a> {
     pub hex: bool,
     /// No progress and no notes are printed.
     pub quiet: bool,
-    /// A value is printed as its bytes only.
+    /// A value is printed as its bytes alone.
     pub raw: bool,
     pub changing: Changing,
 }
@@ -43,18 +43,18 @@ pub struct Options<'a> {
 /// How a log is opened to be changed.
 #[derive(Clone, Copy)]
 pub struct Changing {
-    /// Whether it is opened even if that loses more than an unsynced tail.
+    /// Whether it is opened where that loses more than an unsynced tail explains.
     pub cut: bool,
     /// Whether no file is kept of what the opening cuts off.
     pub no_keep: bool,
     /// How many seconds are waited for a log that is open already.
     pub wait: u64,
-    /// Whether everything is done only in memory.
+    /// Whether all is done in memory alone.
     pub dry_run: bool,
 }
 
 impl Changing {
-    /// The defaults.
+    /// Where no word names another.
     pub const USUAL: Changing = Changing {
         cut: false,
         no_keep: false,
@@ -96,7 +96,7 @@ pub enum Verb<'a> {
 pub enum Purge {
     /// The Append queue's, whose records that still count are written to the Rewrite queue.
     Append,
-    /// The Rewrite queue; its records that still count are written again.
+    /// The Rewrite queue's, whose records that still count are written anew.
     Rewrite,
     /// The Append queue's first ones, of which nothing counts any more.
     Stale,
@@ -104,7 +104,7 @@ pub enum Purge {
     Expired,
 }
 
-/// The source of items, and which of them are written to the log.
+/// Where items are read from, and which of them are written to the log.
 #[derive(Clone, Copy)]
 pub struct Import<'a> {
     /// A file of lines that `dump --json` printed; standard input if neither it nor a folder is named.
@@ -190,8 +190,7 @@ pub struct Range<'a> {
     pub reverse: bool,
 }
 
-/// The number of keys, the bytes of each, and after how many keys to sync and to purge; 0 means
-/// never.
+/// How many keys, of how many bytes each, and after how many of them to sync, and to purge; 0 stands for never.
 #[derive(Clone, Copy)]
 pub struct Load {
     pub count: u64,

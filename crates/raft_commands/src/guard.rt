@@ -1,5 +1,4 @@
-//! Before a change: if its opening would lose something, the change is refused, or the lost bytes
-//! are kept.
+//! What the opening before a change would lose: the change is refused, or what is lost is kept.
 
 use crate::changed::ChangedFiles;
 use crate::opening::broken;
@@ -15,9 +14,9 @@ use raft_opening_plan::{Change, Item, Kind, Plan, Row};
 use raft_records::{Fault, LogQueue};
 use std::alloc::Global;
 
-/// The text of a refused change.
+/// What is told where a change is refused.
 const REFUSED: &str = "nothing was done: the plan above says what mends it, `check` prints more, \
-    and `--cut` continues and loses what the plan says";
+    and `--cut` goes on and loses what the plan says";
 
 /// The same for a repair, which is refused for files that it doesn't cut.
 const UNREPAIRED: &str =
@@ -28,7 +27,7 @@ const UNREPAIRED: &str =
 /// How often strays are moved aside.
 const MOST_STRAYS: u64 = 1000;
 
-/// The log files before an opening, and its plan for them.
+/// The log files before an opening, and what it does with them.
 struct Survey {
     queues: BothQueues,
     plan: Plan,
@@ -63,7 +62,7 @@ pub(crate) fn guard<F: FileSystem + ChangedFiles>(
     }
 }
 
-// The error, after the files that keep something are deleted or printed.
+// What went wrong, after the files that keep something are deleted or told.
 fn given_back(
     rt: &HostRuntime,
     request: &Request<'_>,
@@ -79,7 +78,7 @@ fn given_back(
     }
 }
 
-// Prints the plan. Returns whether the change continues. It fails if the opening would.
+// Tells the plan, and whether the change goes on. It fails if the opening would.
 fn goes_on<F: FileSystem>(
     rt: &HostRuntime,
     files: &mut F,
@@ -101,7 +100,7 @@ fn goes_on<F: FileSystem>(
     Ok(true)
 }
 
-// Fails if the opening would, and prints the plan.
+// Fails if the opening would, and tells the plan.
 fn check_opens<F: FileSystem>(
     rt: &HostRuntime,
     files: &mut F,
@@ -158,7 +157,7 @@ fn moves_strays(plan: &Plan, request: &Request<'_>) -> bool {
     is_repair && request.options.changing.cut && plan.has(Kind::Stray)
 }
 
-// The lock is held, so the look at the folder reports a writer.
+// The lock is held, so that the look at the folder tells of a writer.
 fn survey_files<F: FileSystem>(
     rt: &HostRuntime,
     files: &mut F,

@@ -11,16 +11,17 @@ use crate::{entries, keys, numbered};
 use anyhow::{Result, anyhow};
 use raft_command_line::{Look, Request};
 use raft_console::{Output, Progress, Status, note_made};
-use raft_contents::{Engine, sum};
+use raft_contents::sum;
 use raft_env::FileSystem;
 use raft_inspect::Cut;
+use raft_log_engine::Engine;
 use raft_looks::{Folder, ReservedFile, check};
 use raft_memory::MemoryFileSystem;
 use raft_records::LogQueue;
 use std::alloc::{AllocError, Global};
 use std::thread::Threads;
 
-/// How often a look begins again because files were dropped meanwhile.
+/// How often a look begins again where files are dropped under it.
 const TRIES: u64 = 20;
 
 /// What was read of a folder, which then is let go.
@@ -30,10 +31,10 @@ struct Reading {
     reserved: Total,
 }
 
-/// Prints what the request looks for, and changes nothing in its folder: the log files are read
-/// into memory, and opened there by threads of the handle. It fails if the folder doesn't exist,
-/// if a file can't be read, or if the log can't be opened. If a writer drops a file meanwhile, it
-/// begins again.
+/// Prints what is looked for in the folder of the request, and changes nothing of it: its log files
+/// are read into memory, and opened there by threads of the handle. It fails where there is no
+/// folder, where a file can't be read, and where the log can't be opened. Where a writer drops a
+/// file under it, it begins again.
 pub fn look<R: Threads + Sync>(
     rt: HostRuntime,
     threads: &R,
@@ -102,8 +103,8 @@ pub(crate) fn note_use(rt: &HostRuntime, folder: &Folder, request: &Request<'_>)
     note_made(rt, &request.options, text)
 }
 
-// Prints the files that an opening passes over, or whose folder isn't read.
-fn note_unread(
+/// Tells of files that an opening passes over, or whose folder isn't read.
+pub(crate) fn note_unread(
     rt: &HostRuntime,
     folder: &Folder,
     request: &Request<'_>,
@@ -112,27 +113,13 @@ fn note_unread(
     if request.options.quiet {
         return Ok(());
     }
-    tell_unread(rt, folder, request, progress)?;
-    Ok(())
-}
-
-/// The same, and returns what `check` ends with for it; with `--quiet` it prints nothing.
-pub(crate) fn tell_unread(
-    rt: &HostRuntime,
-    folder: &Folder,
-    request: &Request<'_>,
-    progress: &mut Progress,
-) -> Result<Status> {
-    let Some(plan) = folder.unread(&request.options, progress)? else {
-        return Ok(Status::Done);
-    };
-    if !request.options.quiet {
-        plan.tell(rt, &request.options)?;
+    match folder.unread(&request.options, progress)? {
+        Some(plan) => Ok(plan.tell(rt, &request.options)?),
+        None => Ok(()),
     }
-    Ok(plan.status())
 }
 
-// All log files in memory; `None` if one no longer exists. From here on a writer isn't kept out.
+// All log files in memory; none where one is there no more. A writer is kept out no longer.
 fn read_all(
     rt: &HostRuntime,
     folder: Folder,
@@ -157,8 +144,8 @@ fn total_of(files: &[ReservedFile]) -> Total {
     total
 }
 
-// Prints what an opening would leave out of the files if it succeeds, except bytes that an earlier
-// file left.
+// Says what of the files an opening leaves out, where it doesn't fail; what an earlier file left is
+// none of it.
 fn note_cuts<F: FileSystem>(
     rt: &HostRuntime,
     folder: &Folder,
@@ -182,7 +169,7 @@ fn told_of(alloc: Global, cut: &Cut) -> Result<String, AllocError> {
     )
 }
 
-// The result of a look at files that are all in memory.
+// What is found in files that are all in memory.
 fn show<R: Threads + Sync>(
     rt: &HostRuntime,
     threads: &R,
@@ -220,7 +207,7 @@ fn show_found<R: Threads + Sync, F: FileSystem + Drop>(
     Ok(Status::Absent)
 }
 
-// Prints the result of a look at an engine. Returns whether it found the thing.
+// Prints what an engine finds, and says whether it is there.
 fn find<F: FileSystem>(
     rt: &HostRuntime,
     engine: &mut Engine<F>,
@@ -267,7 +254,7 @@ fn find_entries<F: FileSystem>(
             sum(rt.alloc(), engine, group, indexes, out)?;
             Ok(true)
         }
-        // The other looks are carried out before.
+        // Done before.
         _ => Ok(true),
     }
 }

@@ -1,5 +1,4 @@
-//! Bytes that an opening takes out of log files, and what happens to them if the change then
-//! fails.
+//! What an opening takes out of log files, and what becomes of it if the change then fails.
 
 use anyhow::Result;
 use raft_command_line::Request;
@@ -10,13 +9,12 @@ use std::{fs, io};
 /// What an opening takes out of a log file.
 pub(crate) struct Taken {
     pub path: String,
-    /// The offset from which bytes are cut off; `None` if the whole file is moved aside.
+    /// From where on bytes are cut off; none where the file is moved aside whole.
     pub offset: Option<u64>,
     pub len: u64,
-    /// Whether an earlier file of this place left the bytes.
+    /// Whether an earlier file left the bytes where this one stands.
     pub stale: bool,
-    /// The path, relative to the folder, of the file that keeps the bytes; `None` if they aren't
-    /// kept.
+    /// The path of the file that keeps it, from the folder on; none where none is kept.
     pub kept: Option<String>,
 }
 
@@ -33,7 +31,7 @@ impl Drop for Taken {
     }
 }
 
-/// Prints on standard error what an opening took out of log files.
+/// Tells on standard error what an opening took out of log files.
 pub(crate) fn note_taken(rt: &HostRuntime, request: &Request<'_>, taken: &[Taken]) -> Result<()> {
     for each in taken {
         note_made(rt, &request.options, note_of(rt.alloc(), each))?;
@@ -58,8 +56,7 @@ fn note_of(alloc: Global, taken: &Taken) -> Result<String, AllocError> {
     }
 }
 
-/// After a failed change: deletes the files that keep bytes which the log still has, and prints
-/// the others.
+/// Where a change failed: deletes the files that keep what the log still has, and tells the others.
 pub(crate) fn give_back(rt: &HostRuntime, request: &Request<'_>, taken: &[Taken]) -> Result<()> {
     if request.options.changing.dry_run {
         return Ok(());
@@ -121,7 +118,7 @@ fn bytes_in(rt: &HostRuntime, folder: &str, name: &str) -> io::Result<Vec<u8>> {
     fs::read(rt, format!(in rt.alloc(); "{folder}/{name}")?.as_str())
 }
 
-/// After a failed change: prints the files that were moved aside before.
+/// Where a change failed: tells of files that were moved aside before.
 pub(crate) fn note_moved(rt: &HostRuntime, request: &Request<'_>, taken: &[Taken]) -> Result<()> {
     if request.options.changing.dry_run {
         return Ok(());

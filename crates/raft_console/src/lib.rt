@@ -12,7 +12,7 @@ mod telling;
 
 use anyhow::anyhow;
 pub use input::{bytes_of, file_or_input};
-pub use limits::{batch_room, check_batch, check_file_limit, check_len};
+pub use limits::check_file_limit;
 pub use line_input::{
     EntryLine, GroupValue, LineForm, Pair, Spelling, member, read_entry_lines, read_lines,
     read_object, read_values,
@@ -24,15 +24,14 @@ use raft_command_line::Options;
 pub use status::Status;
 use std::alloc::AllocError;
 pub use streams::take_closed_streams;
-pub use telling::{print_error, tell};
+pub use telling::tell;
 
-/// An error: the failed action, its cause, and a remedy. The action and the cause have room for
-/// 120 bytes each.
+/// What couldn't be done, why, and what helps. What couldn't be done and why have room for 120 bytes each.
 pub fn failure(what: &str, fault: &Fault) -> anyhow::Error {
     cause_of(fault).context(what)
 }
 
-/// The call's result, or an error with the failed action, its cause and a remedy.
+/// What a call answers, or what couldn't be done by it, why, and what helps.
 pub fn or_failure<T>(called: Result<T, Fault>, what: &str) -> anyhow::Result<T> {
     match called {
         Ok(value) => Ok(value),
@@ -43,10 +42,10 @@ pub fn or_failure<T>(called: Result<T, Fault>, what: &str) -> anyhow::Result<T> 
 fn cause_of(fault: &Fault) -> anyhow::Error {
     match fault {
         Fault::Io(IoKind::NoSpace, path) => anyhow!(
-            "{path}: no space is left: free a block or more; everything that was confirmed is kept"
+            "{path}: no space is left: free a block or more; all that was answered stands"
         ),
         Fault::TryAgain => anyhow!(
-            "no space is left, in two files: free a block or more; everything that was confirmed is kept"
+            "no space is left, in two files: free a block or more; all that was answered stands"
         ),
         Fault::Io(IoKind::NotFound, path) => anyhow!("{path}: the system finds no such file"),
         Fault::Io(IoKind::Other, path) => anyhow!("{path}: the system refused a call on it"),
@@ -55,7 +54,7 @@ fn cause_of(fault: &Fault) -> anyhow::Error {
     }
 }
 
-/// Prints a note on standard error, unless the options ask for quiet.
+/// Tells something on standard error, where not all is quiet.
 pub fn note(rt: &HostRuntime, options: &Options<'_>, text: &str) -> anyhow::Result<()> {
     if options.quiet {
         return Ok(());
@@ -63,7 +62,7 @@ pub fn note(rt: &HostRuntime, options: &Options<'_>, text: &str) -> anyhow::Resu
     tell(rt, options.json, "note", text)
 }
 
-/// Prints a text that was made for this note, as `note` does.
+/// Tells a text that was made for it, as `note`.
 pub fn note_made(
     rt: &HostRuntime,
     options: &Options<'_>,

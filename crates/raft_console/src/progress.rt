@@ -1,4 +1,4 @@
-//! Progress on standard error, for work that takes over a second.
+//! Progress on standard error, of what takes over a second.
 
 use crate::telling::tell;
 use anyhow::Result;
@@ -6,13 +6,12 @@ use raft_command_line::Options;
 use std::alloc::AllocError;
 use std::time::Instant;
 
-/// Prints the progress once a second.
+/// Tells once a second how far something is.
 #[derive(Drop)]
 pub struct Progress {
     rt: HostRuntime,
     start: Instant,
-    /// The number of seconds after which progress is printed next; `None` if the options ask for
-    /// quiet.
+    /// After how many seconds it is told next; never, where all is quiet.
     next: Option<u64>,
     /// Each line is an object.
     json: bool,
@@ -23,7 +22,7 @@ impl Progress {
         Progress::start(rt, quiet, false)
     }
 
-    /// As the options request it.
+    /// As the options ask for it.
     pub fn of(rt: HostRuntime, options: &Options<'_>) -> Result<Progress> {
         Progress::start(rt, options.quiet, options.json)
     }
@@ -39,7 +38,7 @@ impl Progress {
         })
     }
 
-    /// Prints how much of a whole is done, if a second has passed.
+    /// Tells that so much of a whole is done, where a second went by.
     pub fn at(&mut self, what: &str, done: u64, whole: u64) -> Result<()> {
         if !self.is_due()? {
             return Ok(());
@@ -47,7 +46,7 @@ impl Progress {
         self.tell(format!(in self.rt.alloc(); "{what}: {done} of {whole}"))
     }
 
-    /// Prints how many of a file's bytes are read, if a second has passed.
+    /// Tells how many of a file's bytes are read, where a second went by.
     pub fn within(&mut self, path: &str, done: u64, whole: u64) -> Result<()> {
         if !self.is_due()? {
             return Ok(());
@@ -55,7 +54,7 @@ impl Progress {
         self.tell(format!(in self.rt.alloc(); "{path}: {done} of {whole} bytes read"))
     }
 
-    /// Prints the step that begins, if a second has passed.
+    /// Tells what is begun, where a second went by.
     pub fn begin(&mut self, what: &str) -> Result<()> {
         if !self.is_due()? {
             return Ok(());
@@ -63,7 +62,7 @@ impl Progress {
         tell(&self.rt, self.json, "progress", what)
     }
 
-    // Whether a second has passed since the last line.
+    // Whether a second went by since something was told.
     fn is_due(&mut self) -> Result<bool> {
         let Some(next) = self.next else {
             return Ok(false);

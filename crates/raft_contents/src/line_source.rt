@@ -7,7 +7,7 @@ use std::alloc::Global;
 use std::fs::{self, File};
 use std::io::{BufRead, BufReader};
 
-/// The source of lines.
+/// Where lines are read from.
 pub(crate) enum LineSource {
     /// A file, of which one line is in memory at a time.
     File(String),

@@ -1,4 +1,5 @@
-//! Removes entries from an index on, as a Raft node does when its log differs from the leader's.
+//! Entries that are removed from an index on, as a Raft node does where its log differs from the
+//! leader's.
 
 use anyhow::Result;
 use raft_console::{Output, or_failure};

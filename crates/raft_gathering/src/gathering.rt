@@ -14,7 +14,7 @@ use std::alloc::Global;
 /// Records that are read into tables.
 pub struct Gathering {
     alloc: Global,
-    /// Whether records are taken that an earlier use of a file left.
+    /// Whether records are taken that an earlier use of a file left behind.
     stale: bool,
     marks: Marks,
     progress: Progress,

@@ -1,4 +1,4 @@
-//! The contents of the records that were read: the entries of each group with their gaps, and its
+//! What the records that were read stand for: of each group its entries, with their gaps, and its
 //! keys.
 
 use raft_records::{Command, EntryIndex, Fault, KeyValue, LogItem, LogItemContent};
@@ -6,7 +6,7 @@ use raft_whole_records::{WholeRecord, is_mark_key};
 use std::alloc::{AllocError, Global};
 use std::collections::BTreeMap;
 
-/// The value at a key, and whether it may be older than a lost one.
+/// The value at a key, and whether it may be older than what was lost.
 pub struct Kept {
     pub value: Vec<u8>,
     /// How many places could not be read before it was written.
@@ -43,7 +43,7 @@ impl Drop for Run {
 }
 
 impl Run {
-    /// The index after the last one.
+    /// The index behind the last one.
     pub fn end(&self) -> u64 {
         self.first.saturating_add(self.entries.len() as u64)
     }
@@ -69,7 +69,7 @@ impl Drop for Group {
 pub struct Tables {
     alloc: Global,
     pub groups: BTreeMap<u64, Group>,
-    /// The number of places that could not be read until now.
+    /// How many places could not be read so far.
     pub losses: u64,
 }
 
@@ -97,7 +97,7 @@ impl Tables {
         self.losses = self.losses.saturating_add(1);
     }
 
-    /// Whether a key's value may be older than a lost one.
+    /// Whether a key's value may be older than what was lost.
     pub fn is_older(&self, kept: &Kept) -> bool {
         kept.is_changed || kept.losses < self.losses
     }
@@ -119,7 +119,8 @@ impl Tables {
         Ok(())
     }
 
-    /// Applies a record whose entries can't be read: it removed entries, or changed keys.
+    /// Applies what is known of a record of which the entries can't be read: it removed entries, or
+    /// changed keys.
     pub fn apply_lost(&mut self, items: &[LogItem]) -> Result<(), Fault> {
         for item in items {
             let group = self.group(item.raft_group_id)?;

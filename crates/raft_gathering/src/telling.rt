@@ -1,13 +1,13 @@
-//! The report on the groups that were read.
+//! What is told of the groups that were read.
 
 use crate::tables::{Group, Run, Tables};
 use anyhow::Result;
 use raft_console::Output;
 use raft_inspect::Word;
 
-/// Prints a line for each group: the entries that a Raft node can use, which are those after the
-/// last gap, and its keys. Lines after it name the missing indexes, those that are left out, and
-/// the keys whose values may be older than the lost ones.
+/// Prints a line for each group: the entries that a Raft node can use, which are those behind the
+/// last gap, and its keys. Lines behind it name the indexes that are missing, those that are left
+/// out, and the keys whose values may be older than what was lost.
 pub fn print_groups(tables: &Tables, out: &mut Output) -> Result<()> {
     for (number, group) in tables.groups.iter() {
         if group.runs.is_empty() && group.keys.is_empty() {

@@ -1,4 +1,4 @@
-//! The files of a folder.
+//! What stands in a folder.
 
 use std::fs::{self, DirEntry};
 use std::io;

@@ -98,8 +98,8 @@ impl Folder {
         Ok(Some(plan))
     }
 
-    /// The same without items of refusals by the system and of deletions: only losses of files
-    /// that were read.
+    /// The same without what the system refuses and what is deleted: what is lost of files that
+    /// were read.
     pub fn plan_of(
         &self,
         queues: &BothQueues,
@@ -108,7 +108,6 @@ impl Folder {
     ) -> Result<Option<Plan>> {
         let planner = self.planner(options.mode);
         let mut plan = Plan::new(self.alloc);
-        self.add_unread_note(options, &mut plan)?;
         for found in [&queues.append, &queues.rewrite] {
             made(planner.add_failures(found, &mut plan))?;
         }
@@ -130,7 +129,6 @@ impl Folder {
     pub fn unread(&self, options: &Options<'_>, progress: &mut Progress) -> Result<Option<Plan>> {
         let planner = self.planner(options.mode);
         let mut plan = Plan::new(self.alloc);
-        self.add_unread_note(options, &mut plan)?;
         self.add_unread(planner, &mut plan)?;
         for queue in &[LogQueue::Append, LogQueue::Rewrite] {
             if QueueFiles::passed_by_number(&self.files_of(*queue)?) == 0 {
@@ -173,17 +171,12 @@ impl Folder {
         Ok(())
     }
 
-    pub(crate) fn places(&self, options: &Options<'_>) -> Places<'_> {
-        Places {
+    fn add_refused(&self, options: &Options<'_>, plan: &mut Plan) -> Result<()> {
+        let places = Places {
             rt: &self.rt,
             planner: self.planner(options.mode),
             reads_reserved: reads_reserved(options),
-            is_in_use: self.is_in_use(),
-        }
-    }
-
-    fn add_refused(&self, options: &Options<'_>, plan: &mut Plan) -> Result<()> {
-        let places = self.places(options);
+        };
         places.add_refused(self.path.as_str(), plan)?;
         if let Some(spill) = &self.spill {
             places.add_spill(self.path.as_str(), spill.as_str(), plan)?;

@@ -1,24 +1,22 @@
 //! Whole records of damaged files, in a new log.
 
 use crate::source_log::SourceLog;
-use anyhow::{Error, Result, anyhow, bail};
+use anyhow::{Result, anyhow, bail};
 use raft_command_line::{Request, Salvage, Verb};
 use raft_commands::change_by;
 use raft_console::{Output, Status};
 use raft_contents::{Material, TableImport};
 use raft_gathering::{Gathering, Source, gather, named_sources, print_groups, sources_of};
 use raft_inspect::Filter;
-use raft_looks::is_inside;
 use std::fs::{self, File};
 use std::io::{self, ErrorKind};
 use std::thread::Threads;
 
-/// Reads every whole record of the request's folder, or of the named files, and writes their
-/// contents into a new folder. It prints how many records each file has, what could not be read
-/// and why, and of each group what came back. Standard error has the plan of an opening of the
-/// folder; if that has losses, the status is 4. Nothing is changed in the request's folder. The
-/// new log is made under the name `TARGET.part`, and gets its own name once it is whole and
-/// synced.
+/// Reads every whole record of the request's folder, or of the files that are named, and writes
+/// what they stand for into a new folder. It prints how many records each file has, what could not
+/// be read and why, and of each group what came back. Standard error has the plan of an opening of
+/// the folder; if that has losses, the status is 4. Nothing is changed in the request's folder. The
+/// new log is made under the name `TARGET.part`, and gets its own name once it is whole and synced.
 pub fn salvage<R: Threads + Sync>(
     rt: HostRuntime,
     threads: &R,
@@ -26,7 +24,7 @@ pub fn salvage<R: Threads + Sync>(
     asked: &Salvage<'_>,
 ) -> Result<Status> {
     if !request.options.changing.dry_run {
-        check_target(&rt, request.folder, asked.target)?;
+        check_target(&rt, asked.target, part_of(&rt, asked)?.as_str())?;
     }
     let mut status = Status::Done;
     let sources = find_sources(rt, request, asked, &mut status)?;
@@ -71,8 +69,8 @@ fn find_sources(
 }
 
 // The name of the new log until it is whole.
-fn part_of(rt: &HostRuntime, target: &str) -> Result<String> {
-    Ok(format!(in rt.alloc(); "{target}.part")?)
+fn part_of(rt: &HostRuntime, asked: &Salvage<'_>) -> Result<String> {
+    Ok(format!(in rt.alloc(); "{}.part", asked.target)?)
 }
 
 fn write<R: Threads + Sync>(
@@ -83,7 +81,7 @@ fn write<R: Threads + Sync>(
     gathering: &Gathering,
     status: Status,
 ) -> Result<Status> {
-    let part = part_of(&rt, asked.target)?;
+    let part = part_of(&rt, asked)?;
     let mut options = request.options;
     options.spill = None;
     let target = Request::new(part.as_str(), options, Verb::Settings, false);
@@ -109,26 +107,15 @@ fn tell(rt: HostRuntime, request: &Request<'_>, gathering: &Gathering) -> Result
     out.print()
 }
 
-// The target is an empty folder, or nothing, and not in the log's own; and no other salvage into it
-// has begun.
-fn check_target(rt: &HostRuntime, folder: &str, target: &str) -> Result<()> {
-    if is_inside(rt, target, folder)? {
-        return Err(inside(target));
-    }
-    let part = part_of(rt, target)?;
-    if stands(rt, part.as_str())? {
+// The target is an empty folder, or nothing; and no other salvage into it has begun.
+fn check_target(rt: &HostRuntime, target: &str, part: &str) -> Result<()> {
+    if stands(rt, part)? {
         bail!("{part}: a salvage that has not ended made it: remove it, and salvage again");
     }
     if stands(rt, target)? && !is_empty(rt, target)? {
         bail!("{target}: it isn't empty, and a salvage writes a new log: name another folder");
     }
     Ok(())
-}
-
-fn inside(target: &str) -> Error {
-    anyhow!("a salvage writes nothing into the log's own folder: name another one").context(
-        format_args!("{target}"),
-    )
 }
 
 fn is_empty(rt: &HostRuntime, folder: &str) -> Result<bool> {

@@ -7,7 +7,6 @@ use raft_commands::change_by;
 use raft_console::{Output, Status, tell};
 use raft_contents::{LineImport, Material, TableImport, filter_of};
 use raft_gathering::{Part, Report, Source, gather, sources_of};
-use raft_looks::is_inside;
 use raft_opening_plan::Plan;
 use std::thread::Threads;
 
@@ -23,10 +22,10 @@ pub fn import_lines<R: Threads + Sync>(
     change_by(rt, threads, request, &mut material)
 }
 
-/// Writes the contents of another folder's log files, whose entries may be compressed with LZ4.
-/// Where more of that log is lost than the end of a queue, nothing is done without `--cut`, and
-/// the status is 7. If the end of a queue can't be read, it is left out, and that is printed.
-/// Then, and with `--cut`, the status is 4.
+/// Writes what another folder's log files stand for, whose entries may be compressed by LZ4. Where
+/// more of that log is lost than the end of a queue, nothing is done without `--cut`, and the status
+/// is 7. Where the end of a queue can't be read it is left out and told. Then, and with `--cut`, the
+/// status is 4.
 pub fn import_folder<R: Threads + Sync>(
     rt: HostRuntime,
     threads: &R,
@@ -34,12 +33,6 @@ pub fn import_folder<R: Threads + Sync>(
     import: Import<'_>,
     folder: &str,
 ) -> Result<Status> {
-    if is_inside(&rt, request.folder, folder)? {
-        bail!(
-            "{}: this log would be in the folder that is read",
-            request.folder
-        );
-    }
     let log = look_at(rt, request, import, folder)?;
     let mut sources = sources_of(&rt, folder, import.spill, false)?;
     sources.retain(|source| source.part == Part::Log);
