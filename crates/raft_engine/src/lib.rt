@@ -2,8 +2,6 @@
 //! code of its own.
 #![tactic(auto)]
 
-#[cfg(test)]
-mod counted;
 pub mod stats;
 
 /// Settings, and settings from text and as text.
