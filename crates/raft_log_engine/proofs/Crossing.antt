@@ -97,7 +97,7 @@ entries_send : IsSend (entries.the_field).row
 entries_send = search (sendable, items.crosses) depth 20
 
 table_parts : AllSend (shape table.the_type).fields
-table_parts = (entries_send, (search (sendable, items.crosses, maps.crosses) depth 20, (search (sendable, items.crosses) depth 20, tt)))
+table_parts = (entries_send, (search (sendable, items.crosses, maps.crosses) depth 20, (search (sendable, items.crosses) depth 20, (search sendable, (search sendable, tt)))))
 
 table_send : IsSend table.the_row
 table_send = recorded_send _ _ _ (table.the_type).to_one (struct_send (shape table.the_type) table_parts)
@@ -106,7 +106,7 @@ table_field_send : IsSend (table.the_field).row
 table_field_send = struct_send (shape table.the_type) table_parts
 
 tables_parts : AllSend (shape tables.the_type).fields
-tables_parts = (search (sendable, items.crosses) depth 20, (search (sendable, items.crosses, maps.crosses, table_send) depth 20, tt))
+tables_parts = (search (sendable, items.crosses) depth 20, (search (sendable, items.crosses, maps.crosses, table_send) depth 20, (search (sendable, items.crosses, maps.crosses, table_send) depth 20, (search sendable, tt))))
 
 tables_field_send : IsSend (tables.the_field).row
 tables_field_send = struct_send (shape tables.the_type) tables_parts
