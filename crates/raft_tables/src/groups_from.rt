@@ -19,7 +19,7 @@ pub struct FirstGroups {
 
 impl MemTables {
     /// The known groups from a number on: all of them, or the first ones, but at least `limit`. It
-    /// looks at the number of each known group, and sorts only those that it returns.
+    /// looks at the number of each known group, and keeps at most `2 * limit + 1` at a time.
     pub fn groups_from(&self, from: u64, limit: usize) -> Result<FirstGroups, AllocError>
         ensures sorted { IfOk result (λ found. IsStrictlySortedBy nat_cmp found.groups.items) }
         ensures value { IfOk result (λ found. (g : ℕ) → list_any (nat_eq g) found.groups.items
