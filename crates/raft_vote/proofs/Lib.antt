@@ -1,0 +1,4 @@
+pub mod StateLemmas
+pub mod StaysLemmas
+pub mod OtherLemmas
+pub mod SaveLemmas

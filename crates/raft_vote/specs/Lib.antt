@@ -1,0 +1,3 @@
+pub mod HardState
+pub mod EachCall
+pub mod Stays
