@@ -6,3 +6,12 @@ pub mod SharedLemmas
 pub mod SettledLemmas
 pub mod PairLemmas
 pub mod Crossing
+pub mod Fronts
+pub mod Adding
+pub mod Durability
+pub mod Noting
+pub mod Witnesses
+pub mod Telling
+pub mod Turns
+pub mod Origins
+pub mod TicketsCrossing

@@ -140,7 +140,7 @@ IsSyncAnswer (Done (Ok _)) fails = fails ≡ false
 IsSyncAnswer (Done (Err reason)) fails = IsRefusedSync reason fails
 IsSyncAnswer answer fails = ⊥
 
--- the result of a look-up of a key with this value, which fails no engine
+-- the result of a `get` with this value, which fails no engine
 abbrev pub IsGetAnswer : Option (List ℕ) → Answer → Bool → Type 0
 IsGetAnswer is (Value (Ok value)) fails = (value ≡ is) × (fails ≡ false)
 IsGetAnswer is (Value (Err reason)) fails = (reason ≡ Memory) × (fails ≡ false)

@@ -4,3 +4,9 @@ pub mod Begun
 pub mod Calls
 pub mod Shared
 pub mod Settled
+pub mod Rules
+pub mod Origin
+pub mod TicketCalls
+pub mod Noted
+pub mod Durable
+pub mod Answer

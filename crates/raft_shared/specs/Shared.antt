@@ -135,7 +135,7 @@ module _ {F H R W : Type 0} {g : Ghosts F H R W} where
     pub recorded : HasRecorded (Purge barrier) (Done (answer_by (λ _. tt) result)) old new seat
         seat' receipt
 
-  -- the engine looked a key up, and the call was recorded with the result
+  -- the engine was asked for a key, and the call was recorded with the result
   pub record RecordsGet (group : ℕ) (key : List ℕ) (old new : Shared F H R W g)
       (seat seat' : Seat) (receipt : Receipt) : Type 0 where
     pub result : Result (Option (Vec ℕ Global)) Fault

@@ -15,9 +15,9 @@ use Rattle.raft_memory.specs.contracts.handles.MemoryHandle as handle
 use Rattle.raft_memory.specs.contracts.handles.MemoryReader as reader
 use Rattle.raft_memory.specs.contracts.handles.MemoryWriter as writer
 use Rattle.raft_memory.specs.contracts.memory.MemoryFileSystem as fs
-use Rattle.raft_tickets.specs.declared.book.Naming as naming
-use Rattle.raft_tickets.specs.contracts.tickets.Tickets as tickets
-use Rattle.raft_tickets.proofs.Crossing.{tickets_send, tickets_sync}
+use Rattle.raft_shared.specs.declared.book.Naming as naming
+use Rattle.raft_shared.specs.contracts.tickets.Tickets as tickets
+use Rattle.raft_shared.proofs.TicketsCrossing.{tickets_send, tickets_sync}
 
 writer_send : IsSend writer.the_row
 writer_send = search (sendable, items.crosses) depth 20

@@ -4,12 +4,13 @@
 #![tactic(auto)]
 
 ghost use Rattle.std.specs.Prelude.{◌≡◌, Some};
-ghost use Rattle.raft_tickets.specs.Origin.{origin_of};
+ghost use Rattle.raft_shared.specs.Origin.{origin_of};
 
 use anyhow::{Result, bail};
 use raft_log_engine::{Config, Engine, Fault, FileSystem, Fresh, LogBatch, MemoryFileSystem};
-use raft_shared::{Call, Finished, Recorded, Reply, Seat, Shared};
-use raft_tickets::{Desk, Durable, Naming, Opened, Tickets};
+use raft_shared::{
+    Call, Desk, Durable, Finished, Naming, Opened, Recorded, Reply, Seat, Shared, Tickets,
+};
 use std::alloc::Global;
 use std::marker::Brand;
 use std::sync::{Arc, Wait};

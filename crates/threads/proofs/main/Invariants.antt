@@ -1,5 +1,5 @@
 use Rattle.std.specs.Prelude.{Some}
-use Rattle.raft_tickets.specs.Origin.{origin_of}
+use Rattle.raft_shared.specs.Origin.{origin_of}
 use Rattle.threads.proofs.main.Given as goal
 
 -- the book that was just opened, and the engine that was just shared

@@ -1,6 +1,0 @@
-pub mod Rules
-pub mod Origin
-pub mod Calls
-pub mod Noted
-pub mod Durable
-pub mod Answer
