@@ -17,11 +17,16 @@ fn put_and_find<F: FileSystem + Drop>(alloc: Global, files: F) -> Result<bool, F
 }
 
 fn put<F: FileSystem + Drop>(alloc: Global, files: F) -> Result<F, Fault> {
+    let mut engine = Engine::open_in_order(alloc, Config::fresh(alloc), files)?;
+    write(alloc, &mut engine)?;
+    Ok(engine.close()?)
+}
+
+fn write<F: FileSystem>(alloc: Global, engine: &mut Engine<F>) -> Result<(), Fault> {
     let mut batch = LogBatch::new(alloc);
     batch.put(1, b"state".to_vec(alloc)?, b"follower".to_vec(alloc)?)?;
-    let mut engine = Engine::open_in_order(alloc, Config::fresh(alloc), files)?;
     engine.write(&mut batch, true)?;
-    Ok(engine.close()?)
+    Ok(())
 }
 
 fn has<F: FileSystem + Drop>(alloc: Global, files: F) -> Result<bool, Fault> {

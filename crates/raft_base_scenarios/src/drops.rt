@@ -2,8 +2,8 @@
 ghost use Rattle.std.specs.Prelude.{◌≡◌, List, [], ◌∷◌};
 ghost use Rattle.raft_base_scenarios.specs.Rows.{after, compact, delete, entries, found, nothing, only, put, value};
 
-/// The first files of the Append queue are dropped too early: a key in them is still referred to
-/// (`referred`), or the Rewrite queue lacks their entries (`missing`), has entries before
+/// The first files of the Append queue are dropped too early. A key in them is still referred to
+/// (`referred`). Or the Rewrite queue lacks their entries (`missing`), has entries before
 /// (`before`) or after (`later`) the recovered ones, or has a key that was removed (`key`).
 pub fn dropped_fronts_change_what_is_found()
     ensures referred { (found [] (put 1 ∷ []) ≡ value 1) × (found [] [] ≡ nothing) }

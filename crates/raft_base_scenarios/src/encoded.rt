@@ -4,7 +4,7 @@ ghost use Rattle.std.specs.Prelude.{◌≡◌, [], ◌∷◌};
 
 use crate::items::{have_same_bytes, push_entry};
 use crate::record_rows::{DecodedRecord, WantedItem, decoded};
-use crate::records::items_of;
+use crate::records::{is_decoded, items_of};
 use crate::told::assert_row;
 use raft_records::{Command, EntryIndex, Fault, FileBlockHandle, LogBatch, Message, MessageExt};
 use std::alloc::{AllocError, Global};
@@ -110,9 +110,10 @@ fn comes_to(alloc: Global, record: &DecodedRecord) -> Result<bool, Fault> {
 }
 
 #[test]
-fn decoded_records_are_encoded(rt: HostRuntime) {
+fn records_are_decoded_and_encoded(rt: HostRuntime) {
     for table in &decoded() {
         for record in *table {
+            assert_row(&rt, is_decoded(rt.alloc(), record), record.name);
             assert_row(&rt, comes_to(rt.alloc(), record), record.name);
         }
     }

@@ -1,5 +1,5 @@
-//! Tests of numbers, batches, records, tables and the rules of purges, each one loop over a table
-//! of cases. The smallest cases in which the recovered contents change, each without one premise
+//! Tests of numbers, batches, records, tables, rules of purges and settings, each one loop over a
+//! table of cases. The smallest cases in which the recovered contents change, each without one premise
 //! of a law.
 #![tactic(auto)]
 
@@ -48,6 +48,14 @@ mod records;
 #[cfg(test)]
 mod refused_rows;
 pub mod rewriting;
+#[cfg(test)]
+mod settings_documents;
+#[cfg(test)]
+mod settings_original;
+#[cfg(test)]
+mod settings_tables;
+#[cfg(test)]
+mod settings_text;
 #[cfg(test)]
 mod sizes;
 pub mod syncs;

@@ -1,6 +1,6 @@
 //! Numbers and checksums as bytes.
 
-use crate::told::assert_rows;
+use crate::told::assert_tables;
 use raft_codec::checksum::crc32;
 use raft_codec::number::{push_u32, push_u64, push_var, take_u32, take_u64, take_var, var_len};
 use raft_records::Fault;
@@ -13,10 +13,18 @@ enum Form {
     Varying,
 }
 
-/// A form, a number, and its bytes in that form.
-struct Number(Form, u64, &'static [u8]);
+enum Case {
+    /// A form, a number, and its bytes in that form.
+    Number(Form, u64, &'static [u8]),
+    /// Bytes that don't begin with a number of the form.
+    NoNumber(Form, &'static [u8]),
+    /// Bytes, the number of bytes `(7 * i + 3) % 256` after them, and zlib's checksum of all.
+    Checksum(&'static [u8], u32, u32),
+}
 
-static NUMBERS: [Number; 8] = [
+use Case::{Checksum, NoNumber, Number};
+
+static NUMBERS: [Case; 8] = [
     Number(
         Form::Eight,
         0x0102_0304_0506_0708,
@@ -39,10 +47,7 @@ static NUMBERS: [Number; 8] = [
     ),
 ];
 
-/// Bytes that don't begin with a number of the form.
-struct NoNumber(Form, &'static [u8]);
-
-static REFUSED: [NoNumber; 7] = [
+static REFUSED: [Case; 7] = [
     NoNumber(Form::Eight, &[0; 7]),
     NoNumber(Form::Four, &[0; 3]),
     NoNumber(Form::Varying, &[]),
@@ -59,6 +64,23 @@ static REFUSED: [NoNumber; 7] = [
         ],
     ),
 ];
+
+static CHECKSUMS: [Case; 10] = [
+    Checksum(b"123456789", 0, 0xCBF4_3926),
+    Checksum(b"", 0, 0),
+    Checksum(b"", 1, 0x4B0B_BE37),
+    Checksum(b"", 15, 0x7C61_9EDC),
+    Checksum(b"", 16, 0x191F_3D9F),
+    Checksum(b"", 17, 0x7BA7_5EE3),
+    Checksum(b"", 31, 0xD07F_9B5B),
+    Checksum(b"", 32, 0xA10E_8695),
+    Checksum(b"", 33, 0x6BC5_3502),
+    Checksum(b"", 1000, 0x17BC_2A46),
+];
+
+fn tables() -> [&'static [Case]; 3] {
+    [&NUMBERS, &REFUSED, &CHECKSUMS]
+}
 
 /// A byte after a number.
 const BEHIND: &[u8] = &[0xEE];
@@ -99,54 +121,6 @@ fn is_taken(form: &Form, bytes: &[u8], number: u64) -> bool {
     }
 }
 
-impl Row for Number {
-    type State = ();
-
-    // The number is written as these bytes, and read from them.
-    fn holds(&self, alloc: Global, _: &mut ()) -> Result<bool, Fault> {
-        let Number(form, number, wanted) = self;
-        let mut bytes = Vec::new(alloc);
-        push(form, &mut bytes, *number)?;
-        let is_written = bytes.as_slice() == *wanted && bytes.len() == len_of(form, *number);
-        bytes.extend_from_slice(BEHIND)?;
-        Ok(is_written && is_taken(form, &bytes, *number))
-    }
-}
-
-#[test]
-fn numbers_have_their_bytes(rt: HostRuntime) {
-    assert_rows(&rt, rt.alloc(), &mut (), &NUMBERS);
-}
-
-impl Row for NoNumber {
-    type State = ();
-
-    fn holds(&self, _: Global, _: &mut ()) -> Result<bool, Fault> {
-        Ok(take(&self.0, self.1).is_none())
-    }
-}
-
-#[test]
-fn other_bytes_are_no_number(rt: HostRuntime) {
-    assert_rows(&rt, rt.alloc(), &mut (), &REFUSED);
-}
-
-/// Bytes, the number of bytes `(7 * i + 3) % 256` after them, and zlib's checksum of all.
-struct Checksum(&'static [u8], u32, u32);
-
-static CHECKSUMS: [Checksum; 10] = [
-    Checksum(b"123456789", 0, 0xCBF4_3926),
-    Checksum(b"", 0, 0),
-    Checksum(b"", 1, 0x4B0B_BE37),
-    Checksum(b"", 15, 0x7C61_9EDC),
-    Checksum(b"", 16, 0x191F_3D9F),
-    Checksum(b"", 17, 0x7BA7_5EE3),
-    Checksum(b"", 31, 0xD07F_9B5B),
-    Checksum(b"", 32, 0xA10E_8695),
-    Checksum(b"", 33, 0x6BC5_3502),
-    Checksum(b"", 1000, 0x17BC_2A46),
-];
-
 fn push_counted(bytes: &mut Vec<u8>, len: u32) -> Result<(), AllocError> {
     for i in 0..len {
         bytes.push(((7 * u64::from(i) + 3) % 256) as u8)?;
@@ -154,17 +128,34 @@ fn push_counted(bytes: &mut Vec<u8>, len: u32) -> Result<(), AllocError> {
     Ok(())
 }
 
-impl Row for Checksum {
+// Whether the number is written as these bytes, and read from them.
+fn has_bytes(alloc: Global, form: &Form, number: u64, wanted: &[u8]) -> Result<bool, AllocError> {
+    let mut bytes = Vec::new(alloc);
+    push(form, &mut bytes, number)?;
+    let is_written = bytes.as_slice() == wanted && bytes.len() == len_of(form, number);
+    bytes.extend_from_slice(BEHIND)?;
+    Ok(is_written && is_taken(form, &bytes, number))
+}
+
+fn has_checksum(alloc: Global, begin: &[u8], len: u32, sum: u32) -> Result<bool, AllocError> {
+    let mut bytes = begin.to_vec(alloc)?;
+    push_counted(&mut bytes, len)?;
+    Ok(crc32(&bytes) == sum)
+}
+
+impl Row for Case {
     type State = ();
 
     fn holds(&self, alloc: Global, _: &mut ()) -> Result<bool, Fault> {
-        let mut bytes = self.0.to_vec(alloc)?;
-        push_counted(&mut bytes, self.1)?;
-        Ok(crc32(&bytes) == self.2)
+        match self {
+            Number(form, number, wanted) => Ok(has_bytes(alloc, form, *number, wanted)?),
+            NoNumber(form, bytes) => Ok(take(form, bytes).is_none()),
+            Checksum(begin, len, sum) => Ok(has_checksum(alloc, begin, *len, *sum)?),
+        }
     }
 }
 
 #[test]
-fn checksums_agree_with_zlib(rt: HostRuntime) {
-    assert_rows(&rt, rt.alloc(), &mut (), &CHECKSUMS);
+fn numbers_and_checksums(rt: HostRuntime) {
+    assert_tables(&rt, rt.alloc(), &mut (), &tables());
 }

@@ -102,8 +102,8 @@ fn is_record(
     }
 }
 
-// Whether reading and replaying the bytes give the record's content.
-fn is_decoded(alloc: Global, record: &DecodedRecord) -> Result<bool, Fault> {
+/// Whether reading and replaying the bytes give the record's content.
+pub(crate) fn is_decoded(alloc: Global, record: &DecodedRecord) -> Result<bool, Fault> {
     let items = items_of(alloc, record)?;
     for sound in &[true, false] {
         let decoded = read(alloc, record.bytes, record.at, &record.file, *sound);
@@ -112,15 +112,6 @@ fn is_decoded(alloc: Global, record: &DecodedRecord) -> Result<bool, Fault> {
         }
     }
     Ok(true)
-}
-
-#[test]
-fn records_are_decoded(rt: HostRuntime) {
-    for table in &decoded() {
-        for record in *table {
-            assert_row(&rt, is_decoded(rt.alloc(), record), record.name);
-        }
-    }
 }
 
 fn is_refused(decoded: Result<(LogItemBatch, usize), Fault>, code: Option<u8>) -> bool {
@@ -149,21 +140,52 @@ fn broken_records_are_refused(rt: HostRuntime) {
     }
 }
 
-/// A put of `v` at `k` in group 1, and a record with two entries of three and two bytes in group
-/// 7.
-static FOOTERS: [(&[u8], [(usize, bool, bool); 3]); 2] = [
-    (
-        b"\x01\x01\x03\x01\x01\x6b\x01\x76\xb1\x29\x48\xe8",
-        [(0, false, true), (9, true, true), (9, false, false)],
+enum Part {
+    /// A footer, the length of the block before it, whether that is marked as compressed, and whether
+    /// the footer is decoded.
+    Footer(&'static [u8], usize, bool, bool),
+    /// An entries block, whether it is marked as compressed, and its entries or the fault's code.
+    Block(&'static [u8], bool, Result<&'static [u8], u8>),
+    /// Bytes, and the header with which they begin.
+    Header(&'static [u8], Option<RecordHeader>),
+}
+
+use Part::{Block, Footer, Header};
+
+/// The footer of a put of `v` at `k` in group 1.
+const OF_PUT: &[u8] = b"\x01\x01\x03\x01\x01\x6b\x01\x76\xb1\x29\x48\xe8";
+
+/// The footer of a record with two entries of three and two bytes in group 7.
+const OF_ENTRIES: &[u8] = b"\x01\x07\x01\x02\x05\x03\x02\x4d\xf5\x9f\x72";
+
+static PARTS: [Part; 14] = [
+    Footer(OF_PUT, 0, false, true),
+    Footer(OF_PUT, 9, true, true),
+    Footer(OF_PUT, 9, false, false),
+    Footer(OF_ENTRIES, 9, false, true),
+    Footer(OF_ENTRIES, 4, true, true),
+    Footer(OF_ENTRIES, 0, true, false),
+    Block(b"", false, Ok(b"")),
+    Block(b"", true, Ok(b"")),
+    Block(b"abcde\x65\xd8\x87\x85", false, Ok(b"abcde")),
+    Block(b"abcde\x65\xd8\x87\x85", true, Err(13)),
+    Block(b"abcdf\x65\xd8\x87\x85", true, Err(2)),
+    Block(b"abc", false, Err(2)),
+    Header(
+        b"\x00\x00\x00\x00\x00\x00\x16\x01\x00\x00\x00\x00\x00\x00\x00\x11\x01\x00\x8d\xef\x02\xd2",
+        Some(RecordHeader {
+            len: 22,
+            footer: 17,
+            lz4: true,
+        }),
     ),
-    (
-        b"\x01\x07\x01\x02\x05\x03\x02\x4d\xf5\x9f\x72",
-        [(9, false, true), (4, true, true), (0, true, false)],
+    Header(
+        b"\x00\x00\x00\x00\x00\x00\x16\x01\x00\x00\x00\x00\x00\x00\x00",
+        None,
     ),
 ];
 
-fn is_footer(alloc: Global, footer: &[u8], block: (usize, bool, bool)) -> bool {
-    let (len, lz4, wanted) = block;
+fn is_footer(alloc: Global, footer: &[u8], len: usize, lz4: bool, wanted: bool) -> bool {
     let before = FileBlockHandle {
         id: UNSIGNED.id,
         offset: 16,
@@ -175,27 +197,6 @@ fn is_footer(alloc: Global, footer: &[u8], block: (usize, bool, bool)) -> bool {
     }
 }
 
-/// Each footer with lengths of the block before it, whether the block is marked as compressed, and
-/// whether the footer is decoded.
-#[test]
-fn footers_are_decoded(rt: HostRuntime) {
-    for (footer, blocks) in &FOOTERS {
-        for block in blocks {
-            assert!(rt; is_footer(rt.alloc(), footer, *block), "after {}", block.0);
-        }
-    }
-}
-
-/// Entries blocks, whether each is marked as compressed, and its entries or the fault's code.
-static BLOCKS: [(&[u8], bool, Result<&[u8], u8>); 6] = [
-    (b"", false, Ok(b"")),
-    (b"", true, Ok(b"")),
-    (b"abcde\x65\xd8\x87\x85", false, Ok(b"abcde")),
-    (b"abcde\x65\xd8\x87\x85", true, Err(13)),
-    (b"abcdf\x65\xd8\x87\x85", true, Err(2)),
-    (b"abc", false, Err(2)),
-];
-
 fn is_block(block: &[u8], lz4: bool, wanted: &Result<&[u8], u8>) -> bool {
     match (decode_entries_block(block, lz4), wanted) {
         (Ok(entries), Ok(bytes)) => entries == *bytes,
@@ -204,36 +205,17 @@ fn is_block(block: &[u8], lz4: bool, wanted: &Result<&[u8], u8>) -> bool {
     }
 }
 
-#[test]
-fn blocks_are_decoded(rt: HostRuntime) {
-    for (place, (block, lz4, wanted)) in BLOCKS.iter().enumerate() {
-        assert!(rt; is_block(block, *lz4, wanted), "{place}");
+fn is_part(alloc: Global, part: &Part) -> bool {
+    match part {
+        Footer(bytes, len, lz4, wanted) => is_footer(alloc, bytes, *len, *lz4, *wanted),
+        Block(bytes, lz4, wanted) => is_block(bytes, *lz4, wanted),
+        Header(bytes, header) => decode_header(bytes) == header.ok_or(Fault::Corruption),
     }
 }
 
-/// Bytes, and the header with which they begin.
-static HEADERS: [(&[u8], Option<RecordHeader>); 2] = [
-    (
-        b"\x00\x00\x00\x00\x00\x00\x16\x01\x00\x00\x00\x00\x00\x00\x00\x11\x01\x00\x8d\xef\x02\xd2",
-        Some(RecordHeader {
-            len: 22,
-            footer: 17,
-            lz4: true,
-        }),
-    ),
-    (
-        b"\x00\x00\x00\x00\x00\x00\x16\x01\x00\x00\x00\x00\x00\x00\x00",
-        None,
-    ),
-];
-
-fn is_header(bytes: &[u8], header: &Option<RecordHeader>) -> bool {
-    decode_header(bytes) == header.ok_or(Fault::Corruption)
-}
-
 #[test]
-fn headers_are_decoded(rt: HostRuntime) {
-    for (place, (bytes, header)) in HEADERS.iter().enumerate() {
-        assert!(rt; is_header(bytes, header), "{place}");
+fn parts_of_records_are_decoded(rt: HostRuntime) {
+    for (place, part) in PARTS.iter().enumerate() {
+        assert!(rt; is_part(rt.alloc(), part), "{place}");
     }
 }

@@ -2,7 +2,7 @@
 
 use crate::asks::{Ask, item_of, one_item};
 use crate::changes::{Change, push_items};
-use crate::told::assert_rows;
+use crate::told::{assert_rows, assert_tables};
 use raft_records::{Fault, FileId, LogItem, LogQueue};
 use raft_rows::Row;
 use raft_tables::{GlobalStats, MemTable, MemTables};
@@ -50,6 +50,8 @@ enum Fit {
 
 /// A change of tables or a read of them, and its result.
 enum Step {
+    /// The tables are empty again.
+    Begin,
     /// The number of the file of the changes, and the changes. Applying them leaves no item.
     Changes(u64, &'static [Change]),
     /// A group, its key, and the value with its file.
@@ -67,7 +69,8 @@ enum Step {
     First(u64),
 }
 
-static APPLIED: [Step; 9] = [
+static APPLIED: [Step; 10] = [
+    Step::Begin,
     Step::Changes(
         1,
         &[
@@ -97,7 +100,8 @@ static APPLIED: [Step; 9] = [
     Step::Value(3, b"a", None),
 ];
 
-static LISTED: [Step; 5] = [
+static LISTED: [Step; 6] = [
+    Step::Begin,
     Step::Changes(
         1,
         &[
@@ -113,7 +117,8 @@ static LISTED: [Step; 5] = [
     Step::Pairs(9, &[(b"a", b"3"), (b"ab", b"2"), (b"b", b"1")]),
 ];
 
-static ENTRIES: [Step; 17] = [
+static ENTRIES: [Step; 18] = [
+    Step::Begin,
     Step::Item(1, Ask::Compact(3), &[], false),
     Step::Item(2, Ask::Put(&[]), &[], false),
     Step::Item(
@@ -170,7 +175,8 @@ static ENTRIES: [Step; 17] = [
 ];
 
 /// Items that are checked after group 1 has entries 1 to 3.
-static CHECKS: [Step; 19] = [
+static CHECKS: [Step; 20] = [
+    Step::Begin,
     Step::Item(
         1,
         Ask::Put(&[1, 2, 3]),
@@ -218,7 +224,8 @@ static CHECKS: [Step; 19] = [
     ),
 ];
 
-static FIRST_FILES: [Step; 19] = [
+static FIRST_FILES: [Step; 20] = [
+    Step::Begin,
     Step::First(99),
     Step::Changes(
         1,
@@ -381,6 +388,10 @@ impl Row for Step {
 
     fn holds(&self, alloc: Global, tables: &mut MemTables) -> Result<bool, Fault> {
         match self {
+            Step::Begin => {
+                *tables = MemTables::new(alloc);
+                Ok(true)
+            }
             Step::Changes(seq, changes) => applies(alloc, tables, file(*seq), changes),
             Step::Value(group, key, held) => Ok(has_value(tables, *group, key, held)),
             Step::Groups(wanted) => Ok(are_groups(tables, wanted)?),
@@ -394,34 +405,16 @@ impl Row for Step {
     }
 }
 
-#[test]
-fn items_apply_in_order(rt: HostRuntime) {
-    let mut tables = MemTables::new(rt.alloc());
-    assert_rows(&rt, rt.alloc(), &mut tables, &APPLIED);
+// A function is checked with the whole of each table that it names, and the time grows with the
+// square of its length.
+fn scripts() -> [&'static [Step]; 5] {
+    [&APPLIED, &LISTED, &ENTRIES, &CHECKS, &FIRST_FILES]
 }
 
 #[test]
-fn tables_are_listed_in_order(rt: HostRuntime) {
+fn items_are_checked_applied_and_listed(rt: HostRuntime) {
     let mut tables = MemTables::new(rt.alloc());
-    assert_rows(&rt, rt.alloc(), &mut tables, &LISTED);
-}
-
-#[test]
-fn entries_are_put_and_dropped(rt: HostRuntime) {
-    let mut tables = MemTables::new(rt.alloc());
-    assert_rows(&rt, rt.alloc(), &mut tables, &ENTRIES);
-}
-
-#[test]
-fn items_are_checked(rt: HostRuntime) {
-    let mut tables = MemTables::new(rt.alloc());
-    assert_rows(&rt, rt.alloc(), &mut tables, &CHECKS);
-}
-
-#[test]
-fn the_first_file_is_found(rt: HostRuntime) {
-    let mut tables = MemTables::new(rt.alloc());
-    assert_rows(&rt, rt.alloc(), &mut tables, &FIRST_FILES);
+    assert_tables(&rt, rt.alloc(), &mut tables, &scripts());
 }
 
 /// A value that the key of a table gets; `None` deletes the key.

@@ -15,6 +15,19 @@ pub(crate) fn assert_rows<R: Abort, T: Row>(
     assert_right(rt, first_wrong(alloc, state, rows));
 }
 
+/// Asserts each row of several tables, and names the first that fails by both places.
+pub(crate) fn assert_tables<R: Abort, T: Row>(
+    rt: &R,
+    alloc: Global,
+    state: &mut T::State,
+    tables: &[&'static [T]],
+) {
+    for (table, rows) in tables.iter().enumerate() {
+        let wrong = first_wrong(alloc, state, rows);
+        assert!(rt; matches!(wrong, Ok(None)), "table {table}, row {wrong:?}");
+    }
+}
+
 /// Asserts that no row failed; `wrong` is the place of the first that did.
 pub(crate) fn assert_right<R: Abort>(rt: &R, wrong: Result<Option<usize>, Fault>) {
     assert!(rt; matches!(wrong, Ok(None)), "row {wrong:?}");

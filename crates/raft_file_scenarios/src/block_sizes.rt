@@ -1,15 +1,17 @@
 //! One file, read in blocks of different sizes.
 
 use crate::failing::Failing;
-use crate::in_memory::{Tried, holds_in_memory};
-use crate::told::assert_row;
 use raft_env::{FileSystem, FsFault, IoKind, Permission};
 use raft_files::{LogFileReader, LogItemBatchFileReader};
 use raft_memory::FsCall;
 use raft_records::{Fault, FileId, LogBatch, LogQueue};
+use raft_rows::store;
 use std::alloc::Global;
 
 const PATH: &str = "log";
+
+/// The file without its last byte.
+const SHORT: &str = "short";
 
 /// A header of version 1: 61 bytes.
 const HEADER: &[u8] =
@@ -39,50 +41,41 @@ fn record_of(alloc: Global, place: usize) -> Result<LogBatch, Fault> {
     Ok(batch)
 }
 
-// Appends bytes to the file and returns its new length.
-fn append<F: FileSystem>(fs: &mut F, part: &[u8]) -> Result<usize, FsFault> {
-    let handle = fs.create(PATH)?;
-    let mut writer = fs.new_writer(&handle)?;
-    let end = fs.file_size(&handle)?;
-    fs.write(&mut writer, end, part)?;
-    fs.file_size(&handle)
-}
-
-// Appends a record, and adds the file's new length to `ends`.
-fn adds<F: FileSystem>(fs: &mut F, alloc: Global, place: usize, ends: &mut Vec<usize>) -> bool {
-    let Ok(record) = record_of(alloc, place) else {
-        return false;
-    };
-    match append(fs, record.encoded_bytes()) {
-        Ok(end) => ends.push(end).is_ok(),
+// Adds a record, and the place where it ends.
+fn adds(alloc: Global, place: usize, bytes: &mut Vec<u8>, ends: &mut Vec<usize>) -> bool {
+    match record_of(alloc, place) {
+        Ok(record) => {
+            bytes.extend_from_slice(record.encoded_bytes()).is_ok()
+                && ends.push(bytes.len()).is_ok()
+        }
         Err(_) => false,
     }
 }
 
-// Writes the whole file, and adds the end of each record to `ends`.
-fn writes<F: FileSystem>(fs: &mut F, alloc: Global, ends: &mut Vec<usize>) -> bool {
-    if append(fs, HEADER).is_err() {
+// Makes the bytes of the whole file, and the end of each record.
+fn lays_out(alloc: Global, bytes: &mut Vec<u8>, ends: &mut Vec<usize>) -> bool {
+    if bytes.extend_from_slice(HEADER).is_err() {
         return false;
     }
     for place in 0..RECORDS {
-        if !adds(fs, alloc, place, ends) {
+        if !adds(alloc, place, bytes, ends) {
             return false;
         }
     }
     true
 }
 
-fn file_reader<F: FileSystem>(fs: &mut F) -> Result<LogFileReader<F>, FsFault> {
-    let handle = fs.open(PATH, Permission::ReadOnly)?;
+fn file_reader<F: FileSystem>(fs: &mut F, path: &str) -> Result<LogFileReader<F>, FsFault> {
+    let handle = fs.open(path, Permission::ReadOnly)?;
     LogFileReader::open(fs, &handle)
 }
 
 // Opens the file for reading, after its header.
-fn opens<F: FileSystem>(fs: &mut F, records: &mut LogItemBatchFileReader<F>) -> bool {
-    match file_reader(fs) {
+fn opens<F: FileSystem>(fs: &mut F, path: &str, records: &mut LogItemBatchFileReader<F>) -> bool {
+    match file_reader(fs, path) {
         Ok(reader) => {
             records
-                .open(fs, FileId::new(LogQueue::Append, 1), PATH, reader)
+                .open(fs, FileId::new(LogQueue::Append, 1), path, reader)
                 .is_ok()
         }
         Err(_) => false,
@@ -114,68 +107,61 @@ fn read_all<F: FileSystem>(
     (ends.len(), 0)
 }
 
-// Whether so many records are read in blocks of this size before this fault.
+// Whether so many records of the file at the path are read in blocks of this size before this
+// fault.
 fn reads<F: FileSystem>(
     fs: &mut F,
     alloc: Global,
+    path: &str,
     size: usize,
     ends: &[usize],
     found: (usize, u8),
 ) -> bool {
     let mut records = LogItemBatchFileReader::new(alloc, size);
-    let is_read = opens(fs, &mut records) && read_all(fs, &mut records, ends) == found;
+    let is_read = opens(fs, path, &mut records) && read_all(fs, &mut records, ends) == found;
     drop(records);
     is_read
 }
 
-// The same with blocks of each size.
+// Whether so many records of a file of these bytes are read with blocks of each size.
 fn each_reads<F: FileSystem>(
     fs: &mut F,
     alloc: Global,
+    path: &str,
+    bytes: &[u8],
     ends: &[usize],
     found: (usize, u8),
 ) -> bool {
+    if store(fs, path, &[bytes]).is_err() {
+        return false;
+    }
     for size in &SIZES {
-        if !reads(fs, alloc, *size, ends, found) {
+        if !reads(fs, alloc, path, *size, ends, found) {
             return false;
         }
     }
     true
 }
 
-fn cut<F: FileSystem>(fs: &mut F, size: usize) -> Result<(), FsFault> {
-    let handle = fs.open(PATH, Permission::ReadWrite)?;
-    let mut writer = fs.new_writer(&handle)?;
-    fs.truncate(&mut writer, size)
-}
-
-// Whether all records except the last are read from a file without its last byte.
-fn reads_others<F: FileSystem>(fs: &mut F, alloc: Global, ends: &[usize]) -> bool {
-    let end = ends.last().copied().unwrap_or(0);
-    cut(fs, end.saturating_sub(1)).is_ok() && each_reads(fs, alloc, ends, (RECORDS - 1, 2))
-}
-
 // Whether a read that fails after the opening is reported before the last record.
 fn shows<F: Failing>(fs: &mut F, alloc: Global, ends: &[usize]) -> bool {
     let mut records = LogItemBatchFileReader::new(alloc, 512);
-    let is_armed = opens(fs, &mut records) && fs.fail(FsCall::Read, 1, IoKind::Other).is_ok();
+    let is_armed = opens(fs, PATH, &mut records) && fs.fail(FsCall::Read, 1, IoKind::Other).is_ok();
     let (read, code) = read_all(fs, &mut records, ends);
     drop(records);
     is_armed && read < RECORDS && code == 3
 }
 
-/// Whether all records are read with blocks of each size. Then a read is refused, and a byte is
-/// missing.
+/// Whether all records are read with blocks of each size. Then a read is refused. Of a file without
+/// its last byte all records except the last are read.
 pub(crate) fn is_read_in_blocks<F: Failing>(fs: &mut F, alloc: Global) -> bool {
+    let mut bytes = Vec::new(alloc);
     let mut ends = Vec::new(alloc);
-    writes(fs, alloc, &mut ends)
-        && each_reads(fs, alloc, &ends, (RECORDS, 0))
+    if !lays_out(alloc, &mut bytes, &mut ends) {
+        return false;
+    }
+    let short = bytes.get(..bytes.len().saturating_sub(1)).unwrap_or(&[]);
+    each_reads(fs, alloc, PATH, &bytes, &ends, (RECORDS, 0))
         && shows(fs, alloc, &ends)
-        && reads_others(fs, alloc, &ends)
-}
-
-#[test]
-fn block_size_changes_no_batch(rt: HostRuntime) {
-    let held = holds_in_memory(rt.alloc(), &Tried::BlockSizes);
-    assert_row(&rt, held, "a file of many records");
+        && each_reads(fs, alloc, SHORT, short, &ends, (RECORDS - 1, 2))
 }

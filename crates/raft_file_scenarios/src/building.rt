@@ -2,8 +2,7 @@
 
 ghost use Rattle.raft_files.specs.Header.{HasHeader};
 
-use crate::in_memory::{Tried, holds_in_memory};
-use crate::told::assert_case;
+use crate::in_memory::Tried;
 use raft_dump::{build_file_reader, build_file_writer};
 use raft_env::FileSystem;
 use raft_files::LogFileFormat;
@@ -14,12 +13,12 @@ use std::alloc::Global;
 /// A path, whether the file is to be created, and the offset of its new writer, or a fault's code.
 pub(crate) type Writer = (&'static str, bool, Result<usize, u8>);
 
-static WRITERS: [Writer; 5] = [
-    ("a/found", false, Ok(89)),
-    ("a/found", true, Ok(61)),
-    ("a/missing", true, Ok(61)),
-    ("a/missing", false, Err(3)),
-    ("a/short", false, Ok(61)),
+pub(crate) static WRITERS: [Tried; 5] = [
+    Tried::Writer(&("a/found", false, Ok(89))),
+    Tried::Writer(&("a/found", true, Ok(61))),
+    Tried::Writer(&("a/missing", true, Ok(61))),
+    Tried::Writer(&("a/missing", false, Err(3))),
+    Tried::Writer(&("a/short", false, Ok(61))),
 ];
 
 fn written<F: FileSystem>(
@@ -56,24 +55,17 @@ pub(crate) fn is_built<F: FileSystem>(fs: &mut F, alloc: Global, row: &Writer) -
     }
 }
 
-#[test]
-fn writers_stand_behind_a_header(rt: HostRuntime) {
-    for (place, row) in WRITERS.iter().enumerate() {
-        assert_case(&rt, holds_in_memory(rt.alloc(), &Tried::Writer(row)), place);
-    }
-}
-
 /// The version of a header, how many of its bytes are in the file, and the version that a writer
 /// then gives the file.
 pub(crate) struct Begun(Version, usize, Version);
 
-static BEGUN: [Begun; 6] = [
-    Begun(Version::V1, 60, Version::V1),
-    Begun(Version::V1, 61, Version::V1),
-    Begun(Version::V1, 60, Version::V2),
-    Begun(Version::V1, 61, Version::V2),
-    Begun(Version::V2, 68, Version::V2),
-    Begun(Version::V2, 69, Version::V2),
+pub(crate) static BEGUN: [Tried; 6] = [
+    Tried::Begun(&Begun(Version::V1, 60, Version::V1)),
+    Tried::Begun(&Begun(Version::V1, 61, Version::V1)),
+    Tried::Begun(&Begun(Version::V1, 60, Version::V2)),
+    Tried::Begun(&Begun(Version::V1, 61, Version::V2)),
+    Tried::Begun(&Begun(Version::V2, 68, Version::V2)),
+    Tried::Begun(&Begun(Version::V2, 69, Version::V2)),
 ];
 
 const BEGUN_PATH: &str = "a/begun";
@@ -126,11 +118,4 @@ pub(crate) fn is_written_again<F: FileSystem>(fs: &mut F, alloc: Global, row: &B
     begins(alloc, fs, *from, *len)
         && makes_writer(alloc, fs, *to)
         && has_format(alloc, fs, format_of(*to))
-}
-
-#[test]
-fn a_partly_written_header_is_written_again(rt: HostRuntime) {
-    for (place, row) in BEGUN.iter().enumerate() {
-        assert_case(&rt, holds_in_memory(rt.alloc(), &Tried::Begun(row)), place);
-    }
 }

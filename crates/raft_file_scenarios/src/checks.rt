@@ -1,7 +1,6 @@
 //! What a check reports of a file, and what an opening would do with the files of a queue.
 
-use crate::in_memory::{Tried, holds_in_memory};
-use crate::told::assert_case;
+use crate::in_memory::Tried;
 use raft_config::RecoveryMode;
 use raft_dump::{FileCheck, LogFile, Planned, check_file, log_files, passed_over, plan_opening};
 use raft_env::FileSystem;
@@ -18,37 +17,37 @@ pub(crate) struct Case {
     found: Found,
 }
 
-static CASES: [Case; 7] = [
-    Case {
+pub(crate) static CASES: [Tried; 7] = [
+    Tried::Check(&Case {
         parts: &[("a/0000000000000001.raftlog", &[HEADER, PUT, NOTHING, PUTS])],
         found: Found(3, 144, 144, true, None),
-    },
-    Case {
+    }),
+    Tried::Check(&Case {
         parts: &[("a/0000000000000001.raftlog", &[HEADER])],
         found: Found(0, 61, 61, true, None),
-    },
+    }),
     // Room allocated ahead, and damage in it.
-    Case {
+    Tried::Check(&Case {
         parts: &[("a/0000000000000001.raftlog", &[HEADER, PUT, ZEROS])],
         found: Found(1, 89, 189, true, Some(2)),
-    },
-    Case {
+    }),
+    Tried::Check(&Case {
         parts: &[("a/0000000000000001.raftlog", &[HEADER, PUT, ZEROS, b"x"])],
         found: Found(1, 89, 190, false, Some(2)),
-    },
+    }),
     // Records after a broken one aren't read.
-    Case {
+    Tried::Check(&Case {
         parts: &[("a/0000000000000001.raftlog", &[HEADER, PUT, b"torn", PUT])],
         found: Found(1, 89, 121, false, Some(2)),
-    },
-    Case {
+    }),
+    Tried::Check(&Case {
         parts: &[("a/0000000000000001.raftlog", &[])],
         found: Found(0, 0, 0, true, Some(2)),
-    },
-    Case {
+    }),
+    Tried::Check(&Case {
         parts: &[("a/0000000000000001.raftlog", &[ZEROS, ZEROS])],
         found: Found(0, 0, 200, true, Some(2)),
-    },
+    }),
 ];
 
 fn is_found(check: &FileCheck, found: &Found) -> bool {
@@ -103,13 +102,6 @@ fn is_one(checks: &[FileCheck], found: &Found) -> bool {
     }
 }
 
-#[test]
-fn a_check_tells_what_can_be_read(rt: HostRuntime) {
-    for (place, case) in CASES.iter().enumerate() {
-        assert_case(&rt, holds_in_memory(rt.alloc(), &Tried::Check(case)), place);
-    }
-}
-
 /// Files of a queue with a missing number. Two of those after it have a broken end.
 static QUEUE: [FileParts; 4] = [
     ("a/0000000000000001.raftlog", &[HEADER]),
@@ -127,10 +119,10 @@ const CUT: Planned = Planned::Cut(89);
 /// A mode, and what an opening in it does with the files after the missing number.
 pub(crate) type Plan = (RecoveryMode, &'static [Planned]);
 
-static PLANS: [Plan; 3] = [
-    (RecoveryMode::AbsoluteConsistency, &[FAIL, KEEP, FAIL]),
-    (RecoveryMode::TolerateTailCorruption, &[FAIL, KEEP, CUT]),
-    (RecoveryMode::TolerateAnyCorruption, &[CUT, KEEP, CUT]),
+pub(crate) static PLANS: [Tried; 3] = [
+    Tried::Plan(&(RecoveryMode::AbsoluteConsistency, &[FAIL, KEEP, FAIL])),
+    Tried::Plan(&(RecoveryMode::TolerateTailCorruption, &[FAIL, KEEP, CUT])),
+    Tried::Plan(&(RecoveryMode::TolerateAnyCorruption, &[CUT, KEEP, CUT])),
 ];
 
 /// Whether an opening in this mode is planned so.
@@ -154,12 +146,5 @@ fn is_plan(alloc: Global, checks: &[FileCheck], plan: &Plan) -> bool {
     match plan_opening(alloc, *mode, kept) {
         Ok(plan) => passed == 1 && plan.as_slice() == *planned,
         Err(_) => false,
-    }
-}
-
-#[test]
-fn an_opening_cuts_what_its_mode_tolerates(rt: HostRuntime) {
-    for (place, plan) in PLANS.iter().enumerate() {
-        assert_case(&rt, holds_in_memory(rt.alloc(), &Tried::Plan(plan)), place);
     }
 }

@@ -9,6 +9,8 @@ use std::alloc::Global;
 /// The files that an opening reads.
 #[derive(Clone, Copy)]
 pub(crate) enum Reading {
+    /// A look, which is no opening.
+    Look,
     All,
     /// All files. It fails if some are missing, or if there are too many.
     Whole,
@@ -45,7 +47,7 @@ impl Disk for DiskFileSystem {
         reading: Reading,
     ) -> Result<DiskFileSystem, OpenFault> {
         match reading {
-            Reading::All => DiskFileSystem::open(rt, folder),
+            Reading::Look | Reading::All => DiskFileSystem::open(rt, folder),
             Reading::Whole => DiskFileSystem::open_whole(rt, folder, None),
             Reading::Two(second) => DiskFileSystem::open_with(rt, folder, Some(second)),
             Reading::NoReserved(second) => {

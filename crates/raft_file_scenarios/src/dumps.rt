@@ -1,8 +1,7 @@
 //! What dumps of folders and files return.
 
 use crate::checks::files_in;
-use crate::in_memory::{Tried, holds_in_memory};
-use crate::told::{assert_case, assert_row};
+use crate::in_memory::Tried;
 use raft_dump::{LogFile, LogItemReader, RecordPlace, dump_with_file_system};
 use raft_env::FileSystem;
 use raft_records::{Fault, LogItem, LogQueue};
@@ -24,19 +23,19 @@ pub(crate) struct Case {
     answers: &'static [Answer],
 }
 
-static CASES: [Case; 8] = [
+pub(crate) static CASES: [Tried; 8] = [
     // A dump fails at an empty file, and returns nothing for a file that has only a header.
-    Case {
+    Tried::Dump(&Case {
         files: &[
             ("a/0000000000000001.raftlog", &[]),
             ("a/0000000000000001.rewrite", &[HEADER]),
         ],
         paths: &["a"],
         answers: &[Answer(APPEND, 1, 0, Err(2))],
-    },
+    }),
     // The Rewrite queue's files come first, and each queue's in order of numbers. Other files are
     // ignored.
-    Case {
+    Tried::Dump(&Case {
         files: &[
             ("a/0000000000000002.raftlog", &[HEADER, PUT]),
             ("a/0000000000000001.raftlog", &[HEADER, NOTHING, PUTS]),
@@ -52,9 +51,9 @@ static CASES: [Case; 8] = [
             Answer(APPEND, 1, 82, Ok(3)),
             Answer(APPEND, 2, 61, Ok(1)),
         ],
-    },
+    }),
     // The files of two folders, also if both have a file of one number.
-    Case {
+    Tried::Dump(&Case {
         files: &[
             ("a/0000000000000001.raftlog", &[HEADER, PUT]),
             ("b/0000000000000001.raftlog", &[HEADER, PUTS]),
@@ -67,15 +66,15 @@ static CASES: [Case; 8] = [
             Answer(APPEND, 1, 61, Ok(2)),
             Answer(APPEND, 1, 61, Ok(3)),
         ],
-    },
+    }),
     // Zeros after the last record, which a killed writer leaves, are one broken record.
-    Case {
+    Tried::Dump(&Case {
         files: &[("a/0000000000000001.raftlog", &[HEADER, PUT, ZEROS])],
         paths: &["a/0000000000000001.raftlog"],
         answers: &[Answer(APPEND, 1, 61, Ok(1)), Answer(APPEND, 1, 89, Err(2))],
-    },
+    }),
     // A dump continues after a broken file.
-    Case {
+    Tried::Dump(&Case {
         files: &[
             ("a/0000000000000001.raftlog", &[HEADER, PUT, b"torn"]),
             ("a/0000000000000002.raftlog", &[b"no header"]),
@@ -90,24 +89,24 @@ static CASES: [Case; 8] = [
             Answer(APPEND, 4, 61, Ok(2)),
             Answer(APPEND, 4, 61, Ok(3)),
         ],
-    },
+    }),
     // An empty folder has no items.
-    Case {
+    Tried::Dump(&Case {
         files: &[],
         paths: &["b"],
         answers: &[],
-    },
+    }),
     // A file without records has no items, nor has one with only an empty record.
-    Case {
+    Tried::Dump(&Case {
         files: &[("b/0000000000000007.rewrite", &[HEADER, NOTHING])],
         paths: &["b/0000000000000007.rewrite"],
         answers: &[],
-    },
-    Case {
+    }),
+    Tried::Dump(&Case {
         files: &[("b/0000000000000007.rewrite", &[HEADER])],
         paths: &["b/0000000000000007.rewrite"],
         answers: &[],
-    },
+    }),
 ];
 
 // The log files in these folders, one folder after the other.
@@ -178,19 +177,12 @@ pub(crate) fn is_dumped<F: FileSystem>(fs: &mut F, alloc: Global, case: &Case) -
     }
 }
 
-#[test]
-fn files_give_their_items_and_then_an_error(rt: HostRuntime) {
-    for (place, case) in CASES.iter().enumerate() {
-        assert_case(&rt, holds_in_memory(rt.alloc(), &Tried::Dump(case)), place);
-    }
-}
-
 /// Paths at which no dump can begin, in a place with two folders and a file `a/LOCK`.
-static REFUSED: [&str; 4] = [
-    "c",
-    "a/LOCK",
-    "a/0000000000000001.raftlog",
-    "a/0000000000000001.raftlog.reserved",
+pub(crate) static REFUSED: [Tried; 4] = [
+    Tried::NoDump("c"),
+    Tried::NoDump("a/LOCK"),
+    Tried::NoDump("a/0000000000000001.raftlog"),
+    Tried::NoDump("a/0000000000000001.raftlog.reserved"),
 ];
 
 /// Whether a dump of the path is refused.
@@ -204,12 +196,5 @@ pub(crate) fn is_refused<F: FileSystem>(fs: &mut F, alloc: Global, path: &str) -
             false
         }
         Err(fault) => fault.code() == 1,
-    }
-}
-
-#[test]
-fn other_paths_are_refused(rt: HostRuntime) {
-    for path in &REFUSED {
-        assert_row(&rt, holds_in_memory(rt.alloc(), &Tried::NoDump(path)), path);
     }
 }

@@ -1,5 +1,5 @@
-//! Tests of log files, files in memory and in a folder of the operating system, settings, and
-//! dumps and checks of log files. Each is one loop over a table of cases.
+//! Tests of log files, files in memory and in a folder of the operating system, and dumps and checks
+//! of log files. Each is one loop over a table of cases.
 #![tactic(auto)]
 
 #[cfg(test)]
@@ -7,15 +7,21 @@ mod block_sizes;
 #[cfg(test)]
 mod building;
 #[cfg(test)]
+mod call_stories;
+#[cfg(test)]
 mod calls;
 #[cfg(test)]
 mod checks;
+#[cfg(test)]
+mod deeds;
 #[cfg(test)]
 mod disk;
 #[cfg(test)]
 mod dumps;
 #[cfg(test)]
 mod failing;
+#[cfg(test)]
+mod folder_steps;
 #[cfg(test)]
 mod foreign;
 #[cfg(test)]
@@ -25,9 +31,11 @@ mod in_memory;
 #[cfg(test)]
 mod log_files;
 #[cfg(test)]
-mod losses;
+mod looks;
 #[cfg(test)]
-mod lost_files;
+mod losing;
+#[cfg(test)]
+mod losses;
 #[cfg(test)]
 mod memory_files;
 #[cfg(test)]
@@ -39,24 +47,12 @@ mod parts;
 #[cfg(test)]
 mod reading;
 #[cfg(test)]
-mod reads;
-#[cfg(test)]
-mod refusals;
-#[cfg(test)]
 mod refused;
 #[cfg(test)]
-mod reserved;
-#[cfg(test)]
 mod searches;
-#[cfg(test)]
-mod settings;
-#[cfg(test)]
-mod settings_text;
 #[cfg(test)]
 mod spellings;
 #[cfg(test)]
 mod stale;
 #[cfg(test)]
 mod told;
-#[cfg(test)]
-mod views;

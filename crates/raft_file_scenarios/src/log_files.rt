@@ -1,8 +1,6 @@
 //! A log file that is written, cut and read back.
 ghost use Rattle.raft_files.specs.Writer.{IsWriterOf};
 
-use crate::in_memory::{Tried, holds_in_memory};
-use crate::told::assert_row;
 use raft_env::{FileSystem, FsFault};
 use raft_files::{LogFileFormat, LogFileReader, LogFileWriter, LogItemBatchFileReader};
 use raft_records::{FileBlockHandle, FileId, LogQueue, Version};
@@ -13,7 +11,7 @@ const V2: LogFileFormat = LogFileFormat {
     alignment: 0,
 };
 
-/// A call, and where the file then ends for its writer, and for a writer opened after it.
+/// A call, and then the end of the file for its writer, and for a writer that is opened after it.
 enum Step {
     Write(&'static [u8], usize),
     Sync,
@@ -173,13 +171,4 @@ pub(crate) fn is_read_back<F: FileSystem>(fs: &mut F, alloc: Global) -> bool {
         }
         Err(_) => false,
     }
-}
-
-#[test]
-fn written_bytes_are_read_back(rt: HostRuntime) {
-    assert_row(
-        &rt,
-        holds_in_memory(rt.alloc(), &Tried::LogFile),
-        "a log file",
-    );
 }

@@ -1,7 +1,6 @@
 //! What `Losses` reports before an opening: what the opening would cut off and pass over.
 
-use crate::in_memory::{Tried, holds_in_memory};
-use crate::told::{assert_case, assert_row};
+use crate::in_memory::Tried;
 use raft_config::{Config, RecoveryMode};
 use raft_env::FileSystem;
 use raft_inspect::{Cut, Losses, Passed, QueueFiles, Unexplained, inspect};
@@ -13,7 +12,8 @@ use std::alloc::Global;
 /// unsynced tail.
 struct WantedCut(&'static str, usize, usize, Option<Unexplained>);
 
-/// Files, a mode, whether the opening fails, what it cuts off, and which files it passes over.
+/// Files, a mode, whether the opening fails, the bytes that it cuts off, and the files that it
+/// passes over.
 pub(crate) struct Case(
     &'static [FileParts],
     RecoveryMode,
@@ -96,20 +96,20 @@ const EARLIER: WantedCut = WantedCut(FIRST, 89, 4, Some(Unexplained::Earlier));
 
 const RECORDS: WantedCut = WantedCut(FIRST, 89, 32, Some(Unexplained::Records));
 
-static CASES: [Case; 13] = [
-    Case(WHOLE, TAIL, false, &[], &[]),
-    Case(WHOLE, ABSOLUTE, true, &[], &[]),
-    Case(TORN_END, ABSOLUTE, true, &[], &[]),
-    Case(TORN_END, TAIL, false, &[REWRITE_END, END], &[]),
-    Case(TORN_END, ANY, false, &[REWRITE_END, END], &[]),
-    Case(TORN_FRONT, TAIL, true, &[], &[]),
-    Case(TORN_FRONT, ANY, false, &[EARLIER], &[]),
-    Case(TORN_MIDDLE, TAIL, false, &[RECORDS], &[]),
-    Case(GAP, TAIL, false, &[], &[PASSED]),
-    Case(GAP, ABSOLUTE, false, &[], &[PASSED]),
-    Case(EMPTY_GAP, TAIL, false, &[], &[]),
-    Case(DOUBLED, ANY, true, &[], &[PASSED]),
-    Case(STRANGE, ABSOLUTE, false, &[], &[]),
+pub(crate) static CASES: [Tried; 13] = [
+    Tried::Losses(&Case(WHOLE, TAIL, false, &[], &[])),
+    Tried::Losses(&Case(WHOLE, ABSOLUTE, true, &[], &[])),
+    Tried::Losses(&Case(TORN_END, ABSOLUTE, true, &[], &[])),
+    Tried::Losses(&Case(TORN_END, TAIL, false, &[REWRITE_END, END], &[])),
+    Tried::Losses(&Case(TORN_END, ANY, false, &[REWRITE_END, END], &[])),
+    Tried::Losses(&Case(TORN_FRONT, TAIL, true, &[], &[])),
+    Tried::Losses(&Case(TORN_FRONT, ANY, false, &[EARLIER], &[])),
+    Tried::Losses(&Case(TORN_MIDDLE, TAIL, false, &[RECORDS], &[])),
+    Tried::Losses(&Case(GAP, TAIL, false, &[], &[PASSED])),
+    Tried::Losses(&Case(GAP, ABSOLUTE, false, &[], &[PASSED])),
+    Tried::Losses(&Case(EMPTY_GAP, TAIL, false, &[], &[])),
+    Tried::Losses(&Case(DOUBLED, ANY, true, &[], &[PASSED])),
+    Tried::Losses(&Case(STRANGE, ABSOLUTE, false, &[], &[])),
 ];
 
 /// A last file without a header, since there was no space for it.
@@ -118,12 +118,12 @@ const NO_HEADER: &[FileParts] = &[(FIRST, &[HEADER, PUT]), (SECOND, &[ZEROS])];
 /// Files, a queue, and its last file if that holds nothing and an earlier file exists.
 pub(crate) struct EmptyLast(&'static [FileParts], LogQueue, Option<&'static str>);
 
-static EMPTY_LASTS: [EmptyLast; 5] = [
-    EmptyLast(WHOLE, LogQueue::Rewrite, Some("a/0000000000000005.rewrite")),
-    EmptyLast(WHOLE, LogQueue::Append, None),
-    EmptyLast(NO_HEADER, LogQueue::Append, Some(SECOND)),
-    EmptyLast(TORN_END, LogQueue::Append, None),
-    EmptyLast(&[(FIRST, &[ZEROS])], LogQueue::Append, None),
+pub(crate) static EMPTY_LASTS: [Tried; 5] = [
+    Tried::EmptyLast(&EmptyLast(WHOLE, LogQueue::Rewrite, Some("a/0000000000000005.rewrite"))),
+    Tried::EmptyLast(&EmptyLast(WHOLE, LogQueue::Append, None)),
+    Tried::EmptyLast(&EmptyLast(NO_HEADER, LogQueue::Append, Some(SECOND))),
+    Tried::EmptyLast(&EmptyLast(TORN_END, LogQueue::Append, None)),
+    Tried::EmptyLast(&EmptyLast(&[(FIRST, &[ZEROS])], LogQueue::Append, None)),
 ];
 
 fn settings(alloc: Global, mode: RecoveryMode) -> Result<Config, Fault> {
@@ -183,17 +183,6 @@ pub(crate) fn is_told<F: FileSystem>(fs: &mut F, alloc: Global, case: &Case) -> 
     }
 }
 
-#[test]
-fn losses_are_told_before_an_opening(rt: HostRuntime) {
-    for (place, case) in CASES.iter().enumerate() {
-        assert_case(
-            &rt,
-            holds_in_memory(rt.alloc(), &Tried::Losses(case)),
-            place,
-        );
-    }
-}
-
 fn is_empty_last(found: &QueueFiles, wanted: Option<&'static str>) -> bool {
     match (found.empty_last(), wanted) {
         (Some(path), Some(wanted)) => path == wanted,
@@ -214,30 +203,10 @@ pub(crate) fn is_last<F: FileSystem>(fs: &mut F, alloc: Global, row: &EmptyLast)
     }
 }
 
-#[test]
-fn a_last_file_that_holds_nothing_is_told(rt: HostRuntime) {
-    for (place, row) in EMPTY_LASTS.iter().enumerate() {
-        assert_case(
-            &rt,
-            holds_in_memory(rt.alloc(), &Tried::EmptyLast(row)),
-            place,
-        );
-    }
-}
-
 /// Whether nothing is reported if no folder exists.
 pub(crate) fn loses_nothing<F: FileSystem>(fs: &mut F, alloc: Global) -> bool {
     match found(fs, alloc, TAIL) {
         Ok(losses) => !losses.fails && losses.cuts.is_empty() && losses.passed.is_empty(),
         Err(_) => false,
     }
-}
-
-#[test]
-fn folders_that_are_not_there_have_no_files(rt: HostRuntime) {
-    assert_row(
-        &rt,
-        holds_in_memory(rt.alloc(), &Tried::NoFolders),
-        "no folders",
-    );
 }

@@ -1,8 +1,7 @@
 //! Files in memory: calls, looks, refusals and crashes in sequence.
 
 use crate::failing::Failing;
-use crate::in_memory::{Tried, holds_in_memory};
-use crate::told::assert_row;
+use crate::in_memory::Tried;
 use raft_env::{FileSystem, FsFault, IoKind, Permission};
 use raft_memory::{Choice, FsCall};
 use raft_records::Fault;
@@ -57,12 +56,11 @@ enum Step {
 
 /// Steps that begin without files.
 pub(crate) struct Script {
-    name: &'static str,
     steps: &'static [Step],
 }
 
-static WRITTEN: Script = Script {
-    name: "written, read, cut and listed",
+/// Written, read, cut and listed.
+pub(crate) static WRITTEN: [Tried; 1] = [Tried::Script(&Script {
     steps: &[
         Step::Does(Call::MakeDir("log/old")),
         Step::Does(Call::Create("log/b")),
@@ -83,10 +81,10 @@ static WRITTEN: Script = Script {
         Step::IsFile("log", false),
         Step::Refused(0),
     ],
-};
+})];
 
-static COUNTED: Script = Script {
-    name: "refusals are counted",
+/// Refusals are counted.
+pub(crate) static COUNTED: [Tried; 1] = [Tried::Script(&Script {
     steps: &[
         Step::Does(Call::Create("a")),
         Step::Refuses(Call::Create("b/a"), IoKind::NotFound),
@@ -98,10 +96,10 @@ static COUNTED: Script = Script {
         Step::Refuses(Call::Write("a", usize::MAX, b"x"), IoKind::NoSpace),
         Step::Refused(7),
     ],
-};
+})];
 
-static ARMED: Script = Script {
-    name: "armed calls are refused",
+/// Armed calls are refused.
+pub(crate) static ARMED: [Tried; 1] = [Tried::Script(&Script {
     steps: &[
         Step::Does(Call::Create("a")),
         Step::ArmNone(FsCall::Sync),
@@ -146,10 +144,10 @@ static ARMED: Script = Script {
         Step::Does(Call::Read("a", 5, b"xbcde?")),
         Step::Refused(17),
     ],
-};
+})];
 
-static RENAMED: Script = Script {
-    name: "deleted, renamed and reused",
+/// Deleted, renamed and reused.
+pub(crate) static RENAMED: [Tried; 1] = [Tried::Script(&Script {
     steps: &[
         Step::Does(Call::MakeDir("log")),
         Step::Does(Call::Create("log/a")),
@@ -176,10 +174,10 @@ static RENAMED: Script = Script {
         Step::IsFile("a", false),
         Step::Refused(5),
     ],
-};
+})];
 
-static CRASHED: Script = Script {
-    name: "a crash leaves what was chosen",
+/// A crash leaves what was chosen.
+pub(crate) static CRASHED: [Tried; 1] = [Tried::Script(&Script {
     steps: &[
         Step::Does(Call::Create("a")),
         Step::Does(Call::Write("a", 0, b"abcd")),
@@ -192,10 +190,10 @@ static CRASHED: Script = Script {
         Step::Leaves(Left::Bytes(b"abQR"), 4, b"abQR??"),
         Step::LeavesNot(Left::Bytes(b"zbcd")),
     ],
-};
+})];
 
-static WRITTEN_OVER: Script = Script {
-    name: "what was written over comes back",
+/// What was written over comes back.
+pub(crate) static WRITTEN_OVER: [Tried; 1] = [Tried::Script(&Script {
     steps: &[
         Step::Does(Call::Create("a")),
         Step::Does(Call::Write("a", 0, b"abcdef")),
@@ -209,20 +207,7 @@ static WRITTEN_OVER: Script = Script {
         Step::Does(Call::Truncate("a", 4)),
         Step::Leaves(Left::Synced, 9, b"a345x7890?"),
     ],
-};
-
-/// Each script is a table of its own: a function is checked with the whole of each table that it
-/// names, and the time grows with the square of the table's length.
-fn scripts() -> [&'static Script; 6] {
-    [
-        &WRITTEN,
-        &COUNTED,
-        &ARMED,
-        &RENAMED,
-        &CRASHED,
-        &WRITTEN_OVER,
-    ]
-}
+})];
 
 fn writer_of<F: FileSystem>(
     fs: &mut F,
@@ -375,14 +360,6 @@ pub(crate) fn is_played<F: Failing>(fs: &mut F, alloc: Global, script: &Script) 
         }
     }
     true
-}
-
-#[test]
-fn files_are_as_the_scripts_say(rt: HostRuntime) {
-    for script in &scripts() {
-        let held = holds_in_memory(rt.alloc(), &Tried::Script(script));
-        assert_row(&rt, held, script.name);
-    }
 }
 
 fn has_kind_and_path(alloc: Global) -> bool {

@@ -1,6 +1,6 @@
 //! The names of log files, their headers, and the zeros between records.
 
-use crate::told::assert_rows;
+use crate::told::assert_tables;
 use raft_files::{
     FileNameExt, LogFileFormat, build_reserved_file_name, is_zero_padded, parse_reserved_file_name,
 };
@@ -8,11 +8,24 @@ use raft_records::{Fault, FileId, LogQueue, Version};
 use raft_rows::Row;
 use std::alloc::Global;
 
-/// A name, the queue and number of the log file that it means, and the number of the reserved file
-/// that it means.
-struct Parsed(&'static str, Option<(LogQueue, u64)>, Option<u64>);
+enum Case {
+    /// A name, the queue and number of the log file that it means, and the number of the reserved file
+    /// that it means.
+    Parsed(&'static str, Option<(LogQueue, u64)>, Option<u64>),
+    /// A file's number, its name, its path in the folder `data`, and its name as a reserved file.
+    Built(u64, &'static str, &'static str, &'static str),
+    /// A version and an alignment, the length of a header of this version, and the bytes after its
+    /// fixed ones; none if such a header is refused as an invalid argument.
+    Header(Version, u64, usize, Option<&'static [u8]>),
+    /// Bytes that don't begin with a header.
+    NoHeader(&'static [u8]),
+    /// Bytes between records, and whether they pass for padding.
+    Padding(&'static [u8], bool),
+}
 
-static PARSED: [Parsed; 9] = [
+use Case::{Built, Header, NoHeader, Padding, Parsed};
+
+static PARSED: [Case; 9] = [
     Parsed(
         "0000000000000123.raftlog",
         Some((LogQueue::Append, 123)),
@@ -48,27 +61,7 @@ fn is_file(id: Option<FileId>, wanted: &Option<(LogQueue, u64)>) -> bool {
     }
 }
 
-impl Row for Parsed {
-    type State = ();
-
-    fn holds(&self, _: Global, _: &mut ()) -> Result<bool, Fault> {
-        let Parsed(name, wanted, reserved) = self;
-        Ok(
-            is_file(FileId::parse_file_name(name), wanted)
-                && parse_reserved_file_name(name) == *reserved,
-        )
-    }
-}
-
-#[test]
-fn names_are_parsed(rt: HostRuntime) {
-    assert_rows(&rt, rt.alloc(), &mut (), &PARSED);
-}
-
-/// A file's number, its name, its path in the folder `data`, and its name as a reserved file.
-struct Built(u64, &'static str, &'static str, &'static str);
-
-static BUILT: [Built; 3] = [
+static BUILT: [Case; 3] = [
     Built(
         7,
         "0000000000000007.raftlog",
@@ -93,32 +86,9 @@ fn is_text(text: Result<String, Fault>, wanted: &str) -> Result<bool, Fault> {
     Ok(text?.as_str() == wanted)
 }
 
-impl Row for Built {
-    type State = ();
-
-    fn holds(&self, alloc: Global, _: &mut ()) -> Result<bool, Fault> {
-        let Built(seq, name, path, reserved) = self;
-        let id = FileId::new(LogQueue::Append, *seq);
-        Ok(
-            is_text(id.build_file_name(alloc), name)?
-                && is_text(id.build_file_path(alloc, "data"), path)?
-                && is_text(build_reserved_file_name(alloc, *seq), reserved)?,
-        )
-    }
-}
-
-#[test]
-fn names_are_built(rt: HostRuntime) {
-    assert_rows(&rt, rt.alloc(), &mut (), &BUILT);
-}
-
 const MAGIC: &[u8] = b"RAFT-LOG-FILE-HEADER-9986AB3E47F320B394C8E84916EB0ED5";
 
-/// A version and an alignment, the length of a header of this version, and the bytes after its
-/// fixed ones; none if such a header is refused as an invalid argument.
-struct Header(Version, u64, usize, Option<&'static [u8]>);
-
-static HEADERS: [Header; 3] = [
+static HEADERS: [Case; 3] = [
     Header(
         Version::V2,
         4096,
@@ -142,34 +112,7 @@ fn has_header(alloc: Global, format: LogFileFormat, numbers: &[u8]) -> Result<bo
     Ok(bytes.strip_prefix(MAGIC) == Some(numbers) && is_read(&bytes, format)?)
 }
 
-impl Row for Header {
-    type State = ();
-
-    fn holds(&self, alloc: Global, _: &mut ()) -> Result<bool, Fault> {
-        let Header(version, alignment, len, numbers) = self;
-        if LogFileFormat::encoded_len(*version) != *len || LogFileFormat::max_encoded_len() != 69 {
-            return Ok(false);
-        }
-        let format = LogFileFormat::new(*version, *alignment);
-        match numbers {
-            Some(numbers) => has_header(alloc, format, numbers),
-            None => match format.encode(&mut Vec::new(alloc)) {
-                Ok(()) => Ok(false),
-                Err(fault) => Ok(fault.code() == 1),
-            },
-        }
-    }
-}
-
-#[test]
-fn headers_are_written_and_read(rt: HostRuntime) {
-    assert_rows(&rt, rt.alloc(), &mut (), &HEADERS);
-}
-
-/// Bytes that don't begin with a header.
-struct NoHeader(&'static [u8]);
-
-static NO_HEADERS: [NoHeader; 3] = [
+static NO_HEADERS: [Case; 3] = [
     NoHeader(b""),
     NoHeader(
         b"RAFT-LOG-FILE-HEADER-9986AB3E47F320B394C8E84916EB0ED5\0\0\0\0\0\0\0\x04\0\0\0\0\0\0\x10\0",
@@ -179,28 +122,7 @@ static NO_HEADERS: [NoHeader; 3] = [
     ),
 ];
 
-impl Row for NoHeader {
-    type State = ();
-
-    // Reading a header from them fails as corrupt and consumes nothing.
-    fn holds(&self, _: Global, _: &mut ()) -> Result<bool, Fault> {
-        let mut rest = self.0;
-        match LogFileFormat::decode(&mut rest) {
-            Err(Fault::Corruption) => Ok(rest.len() == self.0.len()),
-            _ => Ok(false),
-        }
-    }
-}
-
-#[test]
-fn other_headers_are_refused(rt: HostRuntime) {
-    assert_rows(&rt, rt.alloc(), &mut (), &NO_HEADERS);
-}
-
-/// Bytes between records, and whether they pass for padding.
-struct Padding(&'static [u8], bool);
-
-static PADDINGS: [Padding; 5] = [
+static PADDINGS: [Case; 5] = [
     Padding(&[0; 110], true),
     Padding(&[0; 5], true),
     Padding(&[0, 0, 0, 3], false),
@@ -208,15 +130,79 @@ static PADDINGS: [Padding; 5] = [
     Padding(&[0, 7, 0], true),
 ];
 
-impl Row for Padding {
+fn tables() -> [&'static [Case]; 5] {
+    [&PARSED, &BUILT, &HEADERS, &NO_HEADERS, &PADDINGS]
+}
+
+fn are_built(
+    alloc: Global,
+    seq: u64,
+    name: &str,
+    path: &str,
+    reserved: &str,
+) -> Result<bool, Fault> {
+    let id = FileId::new(LogQueue::Append, seq);
+    Ok(
+        is_text(id.build_file_name(alloc), name)?
+            && is_text(id.build_file_path(alloc, "data"), path)?
+            && is_text(build_reserved_file_name(alloc, seq), reserved)?,
+    )
+}
+
+// Whether such a header is refused as an invalid argument.
+fn is_no_format(alloc: Global, format: LogFileFormat) -> bool {
+    match format.encode(&mut Vec::new(alloc)) {
+        Ok(()) => false,
+        Err(fault) => fault.code() == 1,
+    }
+}
+
+// Whether reading a header from the bytes fails as corrupt and consumes nothing.
+fn is_no_header(bytes: &[u8]) -> bool {
+    let mut rest = bytes;
+    match LogFileFormat::decode(&mut rest) {
+        Err(Fault::Corruption) => rest.len() == bytes.len(),
+        _ => false,
+    }
+}
+
+fn is_header(
+    alloc: Global,
+    format: LogFileFormat,
+    numbers: &Option<&'static [u8]>,
+) -> Result<bool, Fault> {
+    match numbers {
+        Some(numbers) => has_header(alloc, format, numbers),
+        None => Ok(is_no_format(alloc, format)),
+    }
+}
+
+impl Row for Case {
     type State = ();
 
-    fn holds(&self, _: Global, _: &mut ()) -> Result<bool, Fault> {
-        Ok(is_zero_padded(self.0) == self.1)
+    fn holds(&self, alloc: Global, _: &mut ()) -> Result<bool, Fault> {
+        match self {
+            Parsed(name, wanted, reserved) => {
+                Ok(
+                    is_file(FileId::parse_file_name(name), wanted)
+                        && parse_reserved_file_name(name) == *reserved,
+                )
+            }
+            Built(seq, name, path, reserved) => are_built(alloc, *seq, name, path, reserved),
+            Header(version, alignment, len, numbers) => {
+                Ok(
+                    LogFileFormat::encoded_len(*version) == *len
+                        && is_header(alloc, LogFileFormat::new(*version, *alignment), numbers)?,
+                )
+            }
+            NoHeader(bytes) => Ok(is_no_header(bytes)),
+            Padding(bytes, wanted) => Ok(is_zero_padded(bytes) == *wanted),
+        }
     }
 }
 
 #[test]
-fn padding_is_zero_at_both_ends(rt: HostRuntime) {
-    assert_rows(&rt, rt.alloc(), &mut (), &PADDINGS);
+fn names_headers_and_padding(rt: HostRuntime) {
+    assert!(rt; LogFileFormat::max_encoded_len() == 69);
+    assert_tables(&rt, rt.alloc(), &mut (), &tables());
 }

@@ -1,6 +1,6 @@
 //! A long file, which is read in parts: its parts have what the whole file has.
 
-use crate::told::assert_rows;
+use crate::told::assert_tables;
 use raft_base::History;
 use raft_dump::{FilePart, LogFile, LogFileParts, LogItemReader, PartSource, check_parts};
 use raft_env::FileSystem;
@@ -210,5 +210,5 @@ impl Row for Case {
 
 #[test]
 fn parts_give_what_stands_in_their_file(rt: HostRuntime) {
-    assert_rows(&rt, rt.alloc(), &mut (), &CASES);
+    assert_tables(&rt, rt.alloc(), &mut (), &[&CASES]);
 }

@@ -5,8 +5,7 @@ ghost use Rattle.std.specs.Option.{IfSome};
 ghost use Rattle.raft_files.specs.FileRecords.{ReadsIn};
 ghost use Rattle.raft_files.specs.Writer.{bytes_at};
 
-use crate::in_memory::{Tried, holds_in_memory};
-use crate::told::assert_row;
+use crate::in_memory::Tried;
 use raft_env::{FileSystem, FsFault};
 use raft_files::{FileRecordReader, LogFileFormat, LogFileReader};
 use raft_records::{
@@ -69,19 +68,18 @@ enum Step {
     Read(Found, usize),
 }
 
-/// A file of version 2: its number and alignment, the records after byte 128, and what is read of
-/// it.
+/// A file of version 2: its number and alignment, the records after byte 128, and the result of
+/// reading it.
 pub(crate) struct Case {
-    name: &'static str,
     seq: u64,
     alignment: u64,
     records: [&'static [u8]; 2],
     steps: &'static [Step],
 }
 
-static CASES: [Case; 10] = [
-    Case {
-        name: "up to the end",
+pub(crate) static CASES: [Tried; 10] = [
+    // Up to the end.
+    Tried::Records(&Case {
         seq: 5,
         alignment: 128,
         records: [EMPTY, PUT],
@@ -91,9 +89,9 @@ static CASES: [Case; 10] = [
             Step::Replay(Found::End, 177),
             Step::Read(Found::End, 177),
         ],
-    },
-    Case {
-        name: "no alignment",
+    }),
+    // No alignment.
+    Tried::Records(&Case {
         seq: 5,
         alignment: 0,
         records: [EMPTY, PUT],
@@ -101,9 +99,9 @@ static CASES: [Case; 10] = [
             Step::Replay(Found::Refused(2), 69),
             Step::Read(Found::Refused(2), 69),
         ],
-    },
-    Case {
-        name: "a byte short",
+    }),
+    // A byte short.
+    Tried::Records(&Case {
         seq: 5,
         alignment: 128,
         records: [EMPTY, CUT],
@@ -112,9 +110,9 @@ static CASES: [Case; 10] = [
             Step::Replay(Found::Refused(2), 149),
             Step::Read(Found::Refused(2), 149),
         ],
-    },
-    Case {
-        name: "of another file",
+    }),
+    // Of another file.
+    Tried::Records(&Case {
         seq: 6,
         alignment: 128,
         records: [EMPTY, PUT],
@@ -122,16 +120,16 @@ static CASES: [Case; 10] = [
             Step::Replay(Found::Refused(2), 69),
             Step::Read(Found::Refused(2), 69),
         ],
-    },
-    Case {
-        name: "a clean",
+    }),
+    // A clean.
+    Tried::Records(&Case {
         seq: 5,
         alignment: 128,
         records: [CLEAN, PUT],
         steps: &[Step::Read(Found::Clean, 152), Step::Read(Found::Put, 180)],
-    },
-    Case {
-        name: "entries",
+    }),
+    // Entries.
+    Tried::Records(&Case {
         seq: 5,
         alignment: 128,
         records: [ENTRIES, ENTRIES],
@@ -140,9 +138,9 @@ static CASES: [Case; 10] = [
             Step::Read(Found::Entries(178), 196),
             Step::Read(Found::End, 196),
         ],
-    },
-    Case {
-        name: "a broken block",
+    }),
+    // A broken block.
+    Tried::Records(&Case {
         seq: 5,
         alignment: 128,
         records: [PUT, ENTRIES_BROKEN],
@@ -152,9 +150,9 @@ static CASES: [Case; 10] = [
             Step::Replay(Found::Entries(172), 190),
             Step::Replay(Found::End, 190),
         ],
-    },
-    Case {
-        name: "a broken block before a put",
+    }),
+    // A broken block before a put.
+    Tried::Records(&Case {
         seq: 5,
         alignment: 128,
         records: [ENTRIES_BROKEN, PUT],
@@ -163,9 +161,9 @@ static CASES: [Case; 10] = [
             Step::Replay(Found::Entries(144), 162),
             Step::Read(Found::Put, 190),
         ],
-    },
-    Case {
-        name: "a compressed block",
+    }),
+    // A compressed block.
+    Tried::Records(&Case {
         seq: 5,
         alignment: 128,
         records: [COMPRESSED, PUT],
@@ -173,9 +171,9 @@ static CASES: [Case; 10] = [
             Step::Replay(Found::Refused(13), 69),
             Step::Read(Found::Refused(13), 69),
         ],
-    },
-    Case {
-        name: "a broken compressed block",
+    }),
+    // A broken compressed block.
+    Tried::Records(&Case {
         seq: 5,
         alignment: 128,
         records: [COMPRESSED_BROKEN, PUT],
@@ -183,7 +181,7 @@ static CASES: [Case; 10] = [
             Step::Replay(Found::Refused(2), 69),
             Step::Read(Found::Refused(2), 69),
         ],
-    },
+    }),
 ];
 
 fn lay_out(case: &Case, bytes: &mut Vec<u8>) -> Result<(), Fault> {
@@ -348,17 +346,4 @@ pub(crate) fn is_read<F: FileSystem>(fs: &mut F, alloc: Global, case: &Case) -> 
 /// Whether a record without a header before it isn't read as a header.
 pub(crate) fn has_no_header<F: FileSystem>(fs: &mut F) -> bool {
     !matches!(format_of(fs, PUT), Ok(Some(_)))
-}
-
-#[test]
-fn records_are_read_or_refused(rt: HostRuntime) {
-    for case in &CASES {
-        let held = holds_in_memory(rt.alloc(), &Tried::Records(case));
-        assert_row(&rt, held, case.name);
-    }
-    assert_row(
-        &rt,
-        holds_in_memory(rt.alloc(), &Tried::NoHeader),
-        "no header",
-    );
 }

@@ -1,8 +1,7 @@
 //! Dumps in which one call on the files fails: the dump still returns the rest.
 
 use crate::failing::Failing;
-use crate::in_memory::{Tried, holds_in_memory};
-use crate::told::assert_case;
+use crate::in_memory::Tried;
 use raft_dump::{LogItemReader, dump_with_file_system};
 use raft_env::{FileSystem, IoKind};
 use raft_memory::{FsCall, MemoryFileSystem};
@@ -26,18 +25,27 @@ const FAILED: u64 = 0;
 /// The items if a call on the first, second or third file fails.
 static WITHOUT: [&[u64]; 3] = [&[FAILED, 2, 3, 1], &[1, FAILED, 1], &[1, 2, 3, FAILED]];
 
-/// A sort of calls, and the least number of them in a dump of three files.
-pub(crate) struct Sort(FsCall, u64);
+/// A sort of calls, the least number of them in a dump of three files, and the kind of fault with
+/// which one fails.
+pub(crate) struct Sort(FsCall, u64, IoKind);
 
-static SORTS: [Sort; 5] = [
-    Sort(FsCall::List, 1),
-    Sort(FsCall::Open, 3),
-    Sort(FsCall::NewReader, 3),
-    Sort(FsCall::FileSize, 3),
-    Sort(FsCall::Read, 3),
+pub(crate) static SORTS: [Tried; 15] = [
+    Tried::RefusedDump(&Sort(FsCall::List, 1, IoKind::NoSpace)),
+    Tried::RefusedDump(&Sort(FsCall::List, 1, IoKind::NotFound)),
+    Tried::RefusedDump(&Sort(FsCall::List, 1, IoKind::Other)),
+    Tried::RefusedDump(&Sort(FsCall::Open, 3, IoKind::NoSpace)),
+    Tried::RefusedDump(&Sort(FsCall::Open, 3, IoKind::NotFound)),
+    Tried::RefusedDump(&Sort(FsCall::Open, 3, IoKind::Other)),
+    Tried::RefusedDump(&Sort(FsCall::NewReader, 3, IoKind::NoSpace)),
+    Tried::RefusedDump(&Sort(FsCall::NewReader, 3, IoKind::NotFound)),
+    Tried::RefusedDump(&Sort(FsCall::NewReader, 3, IoKind::Other)),
+    Tried::RefusedDump(&Sort(FsCall::FileSize, 3, IoKind::NoSpace)),
+    Tried::RefusedDump(&Sort(FsCall::FileSize, 3, IoKind::NotFound)),
+    Tried::RefusedDump(&Sort(FsCall::FileSize, 3, IoKind::Other)),
+    Tried::RefusedDump(&Sort(FsCall::Read, 3, IoKind::NoSpace)),
+    Tried::RefusedDump(&Sort(FsCall::Read, 3, IoKind::NotFound)),
+    Tried::RefusedDump(&Sort(FsCall::Read, 3, IoKind::Other)),
 ];
-
-const KINDS: [IoKind; 3] = [IoKind::NoSpace, IoKind::NotFound, IoKind::Other];
 
 /// More calls of one sort than a dump makes.
 const MANY: u64 = 50;
@@ -160,25 +168,15 @@ fn fails_at<F: Failing>(alloc: Global, call: FsCall, nth: u64, kind: IoKind) -> 
 
 /// Whether each call of the sort fails only for its file, and a dump makes at least the row's
 /// number of them.
-pub(crate) fn fails_each_time<F: Failing>(alloc: Global, sort: &Sort, kind: IoKind) -> bool {
+pub(crate) fn fails_each_time<F: Failing>(alloc: Global, sort: &Sort) -> bool {
     for nth in 1..MANY {
-        match fails_at::<F>(alloc, sort.0, nth, kind) {
+        match fails_at::<F>(alloc, sort.0, nth, sort.2) {
             Some(true) => {}
             Some(false) => return nth > sort.1,
             None => return false,
         }
     }
     false
-}
-
-#[test]
-fn a_failing_call_fails_its_file_alone(rt: HostRuntime) {
-    for (place, sort) in SORTS.iter().enumerate() {
-        for kind in &KINDS {
-            let held = holds_in_memory(rt.alloc(), &Tried::RefusedDump(sort, *kind));
-            assert_case(&rt, held, place);
-        }
-    }
 }
 
 // Whether a dump returns all items. If the Nth request for memory is refused (`rt try --test

@@ -1,6 +1,6 @@
 //! Searches for stale records in bytes that aren't a log's.
 
-use crate::told::assert_case;
+use crate::told::assert_place;
 use raft_dump::{StaleSearch, search_stale};
 use raft_records::{Fault, FileId, LogQueue};
 use std::alloc::Global;
@@ -36,6 +36,6 @@ fn is_found(alloc: Global, heads: usize, wanted: &StaleSearch) -> bool {
 #[test]
 fn a_search_ends(rt: HostRuntime) {
     for (place, (heads, wanted)) in SEARCHES.iter().enumerate() {
-        assert_case(&rt, is_found(rt.alloc(), *heads, wanted), place);
+        assert_place(&rt, is_found(rt.alloc(), *heads, wanted), 0, place);
     }
 }

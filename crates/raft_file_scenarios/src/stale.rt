@@ -1,8 +1,7 @@
 //! A reused file whose first bytes were written over: stale records after its own aren't reported
 //! as damage.
 
-use crate::in_memory::{Tried, holds_in_memory};
-use crate::told::assert_case;
+use crate::in_memory::Tried;
 use raft_config::RecoveryMode;
 use raft_env::FileSystem;
 use raft_inspect::{Lines, Outlook, QueueFiles, add_queue, inspect};
@@ -46,71 +45,71 @@ pub(crate) struct Case {
     stale: u64,
 }
 
-static CASES: [Case; 10] = [
-    Case {
+pub(crate) static CASES: [Tried; 10] = [
+    Tried::Stale(&Case {
         parts: &[V2, OWN],
         line: "records 1 read 97 size 97 rest none absolute keep tail keep any keep\n",
         cut: 0,
         stale: 0,
-    },
-    Case {
+    }),
+    Tried::Stale(&Case {
         parts: &[V2, OWN, TORN, OLD],
         line: "records 1 read 97 size 132 rest stale absolute fail tail cut any cut\n",
         cut: 0,
         stale: 35,
-    },
+    }),
     // Only the header was written over.
-    Case {
+    Tried::Stale(&Case {
         parts: &[V2, OLD, OLD],
         line: "records 0 read 69 size 125 rest stale absolute fail tail cut any cut\n",
         cut: 0,
         stale: 56,
-    },
+    }),
     // One of the file's own records comes after the broken one: it is lost.
-    Case {
+    Tried::Stale(&Case {
         parts: &[V2, OWN, TORN, OWN],
         line: "records 1 read 97 size 132 rest broken absolute fail tail cut any cut\n",
         cut: 1,
         stale: 0,
-    },
-    Case {
+    }),
+    Tried::Stale(&Case {
         parts: &[V2, OWN, TORN, OWN, OLD],
         line: "records 1 read 97 size 160 rest broken absolute fail tail cut any cut\n",
         cut: 1,
         stale: 0,
-    },
-    Case {
+    }),
+    Tried::Stale(&Case {
         parts: &[V2, OWN, TORN],
         line: "records 1 read 97 size 104 rest broken absolute fail tail cut any cut\n",
         cut: 1,
         stale: 0,
-    },
+    }),
     // A record of a later file can't be stale.
-    Case {
+    Tried::Stale(&Case {
         parts: &[V2, OWN, LATER],
         line: "records 1 read 97 size 125 rest broken absolute fail tail cut any cut\n",
         cut: 1,
         stale: 0,
-    },
-    Case {
+    }),
+    Tried::Stale(&Case {
         parts: &[V2, OWN, &[0; 40], OLD],
         line: "records 1 read 97 size 165 rest stale absolute fail tail cut any cut\n",
         cut: 0,
         stale: 68,
-    },
+    }),
     // Records of version 1 don't name their file.
-    Case {
+    Tried::Stale(&Case {
         parts: &[V1, UNSIGNED, OLD],
         line: "records 1 read 89 size 117 rest broken absolute fail tail cut any cut\n",
         cut: 1,
         stale: 0,
-    },
-    Case {
+    }),
+    Tried::Stale(&Case {
         parts: &[V2, OWN, &[0; 40]],
         line: "records 1 read 97 size 137 rest zeros absolute fail tail cut any cut\n",
         cut: 0,
         stale: 0,
-    },
+    }),
 ];
 
 fn found_in<F: FileSystem>(fs: &mut F, alloc: Global, case: &Case) -> Result<QueueFiles, Fault> {
@@ -139,12 +138,5 @@ pub(crate) fn is_told<F: FileSystem>(fs: &mut F, alloc: Global, case: &Case) -> 
     match found_in(fs, alloc, case) {
         Ok(found) => has_line(alloc, &found, case) && has_outlook(alloc, &found, case),
         Err(_) => false,
-    }
-}
-
-#[test]
-fn stale_records_are_told_from_damage(rt: HostRuntime) {
-    for (place, case) in CASES.iter().enumerate() {
-        assert_case(&rt, holds_in_memory(rt.alloc(), &Tried::Stale(case)), place);
     }
 }

@@ -5,14 +5,17 @@ use raft_rows::{Row, first_wrong};
 use std::alloc::Global;
 use std::process::Abort;
 
-/// Asserts each row of a table, and names the first that fails by its place.
-pub(crate) fn assert_rows<R: Abort, T: Row>(
+/// Asserts each row of several tables, and names the first that fails by both places.
+pub(crate) fn assert_tables<R: Abort, T: Row>(
     rt: &R,
     alloc: Global,
     state: &mut T::State,
-    rows: &'static [T],
+    tables: &[&'static [T]],
 ) {
-    assert_right(rt, first_wrong(alloc, state, rows));
+    for (table, rows) in tables.iter().enumerate() {
+        let wrong = first_wrong(alloc, state, rows);
+        assert!(rt; matches!(wrong, Ok(None)), "table {table}, row {wrong:?}");
+    }
 }
 
 /// Asserts that no row failed; `wrong` is the place of the first that did.
@@ -25,7 +28,7 @@ pub(crate) fn assert_row<R: Abort>(rt: &R, held: bool, name: &str) {
     assert!(rt; held, "{name}");
 }
 
-/// Asserts the case at this place.
-pub(crate) fn assert_case<R: Abort>(rt: &R, held: bool, place: usize) {
-    assert!(rt; held, "case {place}");
+/// Asserts the row at this place of a table.
+pub(crate) fn assert_place<R: Abort>(rt: &R, held: bool, table: usize, row: usize) {
+    assert!(rt; held, "table {table}, row {row}");
 }

@@ -1,5 +1,5 @@
-//! Commands that change a log, at logs whose opening loses something: they are refused, or what is
-//! lost is kept in files beside.
+//! Commands that change a log whose opening loses something: they are refused, or the lost bytes
+//! are kept in files beside.
 
 use crate::files::{
     CUT_BEFORE, FileParts, GAP, LEFT_OUT, NO_REWRITE, PUT, TORN, TORN_END, TORN_FRONT, TORN_MIDDLE,
@@ -12,8 +12,8 @@ use raft_commands::change;
 use std::test::Fail;
 use std::thread::Threads;
 
-/// Files, the words behind the folder, the status or nothing where the command fails, the names and
-/// bytes of files that keep something, and whether all else is as before.
+/// Files, the words after the folder, the status (`None` if the command fails), the names and
+/// bytes of files that keep something, and whether everything else is unchanged.
 struct Case(
     &'static [FileParts],
     &'static [&'static str],

@@ -8,7 +8,7 @@ use raft_commands::look;
 use std::test::Fail;
 use std::thread::Threads;
 
-/// The words behind the folder, and the status at a whole log and at a broken one; nothing where the
+/// The words after the folder, and the status for a whole log and for a broken one; `None` if the
 /// command fails.
 struct Command(&'static [&'static str], Option<u8>, Option<u8>);
 

@@ -56,7 +56,7 @@ pub(crate) const TORN_FRONT: &[FileParts] = &[
     ("0000000000000002.raftlog", &[HEADER, PUT]),
 ];
 
-/// A whole record behind torn bytes.
+/// A whole record after torn bytes.
 pub(crate) const TORN_MIDDLE: &[FileParts] = &[(FIRST, &[HEADER, PUT, TORN, PUT])];
 
 /// The file of number 2 is missing.
@@ -65,7 +65,7 @@ pub(crate) const GAP: &[FileParts] = &[
     ("0000000000000003.raftlog", &[HEADER, PUT]),
 ];
 
-/// The last file stands in a folder below.
+/// The last file is in a folder inside it.
 pub(crate) const LEFT_OUT: &[FileParts] = &[
     (FIRST, &[HEADER, PUT, ENTRY]),
     ("second/0000000000000002.raftlog", &[HEADER, PUT]),
@@ -74,7 +74,7 @@ pub(crate) const LEFT_OUT: &[FileParts] = &[
 /// Files of the Append queue were dropped, and the Rewrite queue has none.
 pub(crate) const NO_REWRITE: &[FileParts] = &[("0000000000000002.raftlog", &[HEADER, PUT])];
 
-/// Torn bytes, and a file beside that keeps what was cut off at this place before.
+/// Torn bytes, and a file beside with bytes that were cut off at this place before.
 pub(crate) const CUT_BEFORE: &[FileParts] = &[
     (FIRST, &[HEADER, PUT, TORN]),
     ("0000000000000001.raftlog.cut-89", &[PUT]),
@@ -98,7 +98,7 @@ fn make_file(rt: &HostRuntime, folder: &str, file: &str, parts: &[&[u8]]) -> io:
     fs::write(rt, place.as_str(), &bytes)
 }
 
-/// Makes a folder for one test with these files, of which one may stand in a folder below.
+/// Makes a folder for one test with these files. One of them may be in a folder inside it.
 pub(crate) fn make(
     rt: &HostRuntime,
     name: &str,
@@ -112,7 +112,7 @@ pub(crate) fn make(
     Ok(folder)
 }
 
-/// Removes the folder, and tells the name and the place of a row that came to something else.
+/// Removes the folder, and fails with the name and the place of the row that ended otherwise.
 pub(crate) fn end(
     rt: &HostRuntime,
     folder: &str,

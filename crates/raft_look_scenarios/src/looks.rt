@@ -1,4 +1,4 @@
-//! Each look at a folder, with what it prints and its status, also at one that may not be written.
+//! Each look at a folder, with its output and status, also at a read-only folder.
 
 use crate::files::{FileParts, GAP, LEFT_OUT, TORN_END, TORN_FRONT, WHOLE, end, make};
 use crate::standing::{set_writable, standing};
@@ -23,7 +23,7 @@ struct Case {
     name: &'static str,
     files: &'static [FileParts],
     look: Look,
-    /// The status and what is printed, with `@` for the folder, or nothing where the look fails.
+    /// The status and the output, with `@` for the folder; `None` if the look fails.
     told: Option<(u8, &'static str)>,
 }
 

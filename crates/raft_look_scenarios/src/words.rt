@@ -7,7 +7,7 @@ fn add(alloc: Global, words: &mut Vec<String>, word: &str) -> Result<(), AllocEr
     Ok(())
 }
 
-/// The program's name, a folder, and the words behind it; and that all is quiet.
+/// The program's name, a folder, the words after it, and the option for quiet.
 pub(crate) fn words_of(
     alloc: Global,
     folder: &str,

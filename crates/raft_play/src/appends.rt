@@ -11,6 +11,16 @@ use std::alloc::{AllocError, Global};
 /// The key of the group's message.
 const LAST_INDEX: &str = "last_index";
 
+// The only call of a write here, since such a call takes long to prove.
+fn write_batch<F: FileSystem>(
+    engine: &mut Engine<F>,
+    batch: &mut LogBatch,
+    sync: bool,
+) -> Result<(), Fault> {
+    engine.write(batch, sync)?;
+    Ok(())
+}
+
 fn write_raw<F: FileSystem>(
     alloc: Global,
     engine: &mut Engine<F>,
@@ -20,8 +30,7 @@ fn write_raw<F: FileSystem>(
 ) -> Result<(), Fault> {
     let mut batch = LogBatch::new(alloc);
     add_raw(alloc, &mut batch, group, index, bytes.to_vec(alloc)?)?;
-    engine.write(&mut batch, false)?;
-    Ok(())
+    write_batch(engine, &mut batch, false)
 }
 
 /// Writes an entry with these bytes for each group and index, each in its own batch.
@@ -91,8 +100,7 @@ fn write_between<F: FileSystem>(
     let mut batch = LogBatch::new(alloc);
     add_texts(alloc, &mut batch, group, indexes, word)?;
     add_last_index(alloc, &mut batch, group, indexes.1)?;
-    engine.write(&mut batch, true)?;
-    Ok(())
+    write_batch(engine, &mut batch, true)
 }
 
 fn add_last_index(

@@ -9,6 +9,7 @@ pub(crate) enum Asked {
     Log(LogLine),
     Batch(BatchLine),
     Files(FilesLine),
+    Copy(CopyLine),
     Program(ProgramLine),
     Call(CallLine),
     Look(LookLine),
@@ -84,6 +85,27 @@ pub(crate) enum ChangeLine {
     Store,
     Shift,
     Cut,
+    /// Writes a byte that the file doesn't have there.
+    Break,
+}
+
+/// Opens copies of files that no engine has.
+#[derive(Clone, Copy)]
+pub(crate) enum CopyLine {
+    /// Opens a copy in order, and once more after a close.
+    Try,
+    /// Opens two copies as a crash leaves them, one in order and one by workers.
+    Alike(CrashLine),
+    /// Opens a copy by workers, of whose reads one fails.
+    Unread,
+}
+
+/// What a crash leaves of a copy.
+#[derive(Clone, Copy)]
+pub(crate) enum CrashLine {
+    All,
+    Synced,
+    Torn,
 }
 
 /// Changes files as a crash or another program does.

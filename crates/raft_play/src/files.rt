@@ -42,8 +42,12 @@ fn room_for<F: FileSystem>(
     Ok(vec![in alloc; 0; size]?)
 }
 
-// The bytes of a file.
-fn bytes_at<F: FileSystem>(alloc: Global, files: &mut F, path: &str) -> Result<Vec<u8>, FsFault> {
+/// The bytes of a file.
+pub(crate) fn bytes_at<F: FileSystem>(
+    alloc: Global,
+    files: &mut F,
+    path: &str,
+) -> Result<Vec<u8>, FsFault> {
     let handle = files.open(path, Permission::ReadOnly)?;
     let mut bytes = room_for(alloc, files, &handle)?;
     let len = read(files, &handle, &mut bytes)?;
@@ -67,7 +71,15 @@ fn cut<F: FileSystem>(files: &mut F, path: &str, len: u64) -> Result<(), FsFault
     files.truncate(&mut writer, len as usize)
 }
 
-fn mode_of(word: &str) -> Option<RecoveryMode> {
+// Writes a byte at a place. No file of the stories has it there.
+fn break_byte<F: FileSystem>(files: &mut F, path: &str, at: u64) -> Result<(), FsFault> {
+    let handle = files.open(path, Permission::ReadWrite)?;
+    let mut writer = files.new_writer(&handle)?;
+    files.write(&mut writer, at as usize, &[0xa5])
+}
+
+/// The mode of this name.
+pub(crate) fn mode_of(word: &str) -> Option<RecoveryMode> {
     match word {
         "absolute" => Some(RecoveryMode::AbsoluteConsistency),
         "tail" => Some(RecoveryMode::TolerateTailCorruption),
@@ -87,6 +99,17 @@ fn count_logs(names: &[String]) -> u64 {
     count
 }
 
+// Prints the code of a fork's fault, and the kind of a call's fault.
+fn refuse_fork(line: &mut Line, fault: &Fault) {
+    match fault {
+        Fault::Io(kind, _) => {
+            line.said.say("refused 3 ");
+            line.said.kind(*kind);
+        }
+        _ => line.refused(fault.code()),
+    }
+}
+
 // Prints the paths of a fork's copies, and of links, which a fork doesn't make.
 fn say_fork<F: FileSystem>(line: &mut Line, config: &Config, files: &mut F) {
     match fork(line.alloc, config, files, line.text(0)) {
@@ -95,7 +118,7 @@ fn say_fork<F: FileSystem>(line: &mut Line, config: &Config, files: &mut F) {
             line.said.paths(" ", &details.copied);
             line.said.paths(" linked ", &details.symlinked);
         }
-        Err(fault) => line.refuse(fault),
+        Err(fault) => refuse_fork(line, &fault),
     }
 }
 
@@ -127,6 +150,7 @@ fn change<F: FileSystem>(line: &mut Line, files: &mut F, asked: ChangeLine) {
         ChangeLine::Store => store(files, path, line.bytes(0)),
         ChangeLine::Shift => shift(alloc, files, path, line.byte(0)),
         ChangeLine::Cut => cut(files, path, line.number(0)),
+        ChangeLine::Break => break_byte(files, path, line.number(0)),
     };
     line.done_by_files(done);
 }

@@ -2,9 +2,9 @@
 //! request.
 
 use crate::asked::{
-    Asked, BatchLine, CallLine, ChangeLine, CountLine, EntriesLine, EntryLine, FilesLine,
-    ItemsLine, KeyLine, LogLine, LookLine, OpLine, ProgramLine, SettingsLine, UpsetLine, WholeLine,
-    WriteLine,
+    Asked, BatchLine, CallLine, ChangeLine, CopyLine, CountLine, CrashLine, EntriesLine, EntryLine,
+    FilesLine, ItemsLine, KeyLine, LogLine, LookLine, OpLine, ProgramLine, SettingsLine, UpsetLine,
+    WholeLine, WriteLine,
 };
 use crate::words::is_byte;
 use raft_test_rows::{RecoveryMode, number_of};
@@ -34,7 +34,7 @@ use Kind::{Bound, Byte, Bytes, Is, Key, Number, Numbers, Text};
 #[derive(Clone, Copy)]
 pub(crate) struct Form(pub &'static str, pub &'static [Kind], pub Asked);
 
-static FORMS: [Form; 90] = [
+static FORMS: [Form; 96] = [
     Form("settings", &[], Asked::Settings(SettingsLine::Usual)),
     Form("set", &[Text, Text], Asked::Settings(SettingsLine::Set)),
     Form("name", &[Text, Bytes], Asked::Settings(SettingsLine::Name)),
@@ -154,6 +154,28 @@ static FORMS: [Form; 90] = [
         &[Text, Number],
         Asked::Files(FilesLine::Change(ChangeLine::Cut)),
     ),
+    Form(
+        "break",
+        &[Text, Number],
+        Asked::Files(FilesLine::Change(ChangeLine::Break)),
+    ),
+    Form("try", &[Text], Asked::Copy(CopyLine::Try)),
+    Form(
+        "alike",
+        &[Text, Number],
+        Asked::Copy(CopyLine::Alike(CrashLine::All)),
+    ),
+    Form(
+        "alike",
+        &[Text, Number, Is("synced")],
+        Asked::Copy(CopyLine::Alike(CrashLine::Synced)),
+    ),
+    Form(
+        "alike",
+        &[Text, Number, Is("torn"), Number, Byte],
+        Asked::Copy(CopyLine::Alike(CrashLine::Torn)),
+    ),
+    Form("unread", &[Number, Number], Asked::Copy(CopyLine::Unread)),
     Form("has", &[Text, Bytes], Asked::Files(FilesLine::Has)),
     Form("is-folder", &[Text], Asked::Files(FilesLine::IsFolder)),
     Form("metadata", &[Text], Asked::Files(FilesLine::Metadata)),

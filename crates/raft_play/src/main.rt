@@ -7,6 +7,7 @@ mod asked;
 mod batch;
 mod calls;
 mod check;
+mod copies;
 mod dump;
 mod files;
 mod forms;
@@ -22,13 +23,14 @@ mod words;
 
 use raft_memory::MemoryFileSystem;
 use std::process::ExitCode;
+use std::thread::Threads;
 use std::{env, fs};
 use table::{Tally, play};
 
 fn main(rt: HostRuntime) -> Result<ExitCode, anyhow::Error> {
     let mut all_right = true;
     for path in env::args(&rt)?.skip(1) {
-        all_right = play_file(rt, path.as_str())? && all_right;
+        all_right = play_file(rt, &rt, path.as_str())? && all_right;
     }
     Ok(if all_right {
         ExitCode::SUCCESS
@@ -38,9 +40,13 @@ fn main(rt: HostRuntime) -> Result<ExitCode, anyhow::Error> {
 }
 
 // Whether each line of a file has the expected result.
-fn play_file(rt: HostRuntime, path: &str) -> Result<bool, anyhow::Error> {
+fn play_file<R: Threads + Sync>(
+    rt: HostRuntime,
+    threads: &R,
+    path: &str,
+) -> Result<bool, anyhow::Error> {
     let text = fs::read_to_string(&rt, path)?;
-    let tally = play::<MemoryFileSystem>(rt.alloc(), text.as_str())?;
+    let tally = play::<R, MemoryFileSystem>(threads, rt.alloc(), text.as_str())?;
     tell(rt, path, &tally)
 }
 

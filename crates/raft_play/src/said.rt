@@ -1,6 +1,7 @@
 //! The text of a line's result, while it is being made.
 
 use crate::words::{are_same, is_text};
+use raft_env::IoKind;
 use std::alloc::{AllocError, Global};
 
 /// If memory runs out, something is left out, and the text isn't complete.
@@ -54,6 +55,15 @@ impl Said {
 
     pub(crate) fn whether(&mut self, is: bool) {
         self.say(if is { "yes" } else { "no" });
+    }
+
+    /// Appends the name of a kind of a call's fault.
+    pub(crate) fn kind(&mut self, kind: IoKind) {
+        self.say(match kind {
+            IoKind::NoSpace => "no-space",
+            IoKind::NotFound => "not-found",
+            IoKind::Other => "other",
+        });
     }
 
     pub(crate) fn number(&mut self, number: u64) {

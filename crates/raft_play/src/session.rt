@@ -1,16 +1,17 @@
 //! A log in memory while the lines of a story are played.
 
-use crate::asked::{Asked, CallLine, FilesLine, LogLine, LookLine, SettingsLine};
+use crate::asked::{Asked, CallLine, CopyLine, FilesLine, LogLine, LookLine, SettingsLine};
 use crate::batch::Writing;
 use crate::line::Line;
 use crate::program::Program;
-use crate::{calls, files, looks};
+use crate::{calls, copies, files, looks};
 use raft_env::IoKind;
 use raft_memory::FsCall;
 use raft_records::{Fault, Fresh};
 use raft_settings::with_text;
 use raft_test_rows::{Config, Failing, Faulty, Held, RecoveryMode, settings};
 use std::alloc::{AllocError, Global};
+use std::thread::Threads;
 
 /// The settings of the next opening, the batch of the next write, the lines of a program, and the
 /// current line. The files, or an engine over them, are beside it.
@@ -97,10 +98,11 @@ fn came_to<F: Faulty>(line: &mut Line, held: &Held<F>) {
     }
 }
 
-// Prints why the last opening or closing was refused, if a rule refused it.
+// Prints why the last opening or closing was refused: the rule, or the kind of a call's fault.
 fn why<F: Faulty>(line: &mut Line, held: &Held<F>) {
     match held.fault() {
         Some(Fault::InvalidArgument(reason)) => line.said.say(reason),
+        Some(Fault::Io(kind, _)) => line.said.kind(*kind),
         _ => line.bad(),
     }
 }
@@ -205,6 +207,18 @@ impl Session {
         }
     }
 
+    fn answer_copy<R: Threads + Sync, F: Faulty>(
+        &mut self,
+        rt: &R,
+        held: &mut Held<F>,
+        asked: CopyLine,
+    ) {
+        match held.files() {
+            Some(files) => copies::answer(rt, &mut self.line, &self.config, files, asked),
+            None => self.line.bad(),
+        }
+    }
+
     fn answer_call<F: Faulty>(&mut self, held: &mut Held<F>, asked: CallLine) {
         match held {
             Held::Engine(engine) => {
@@ -221,12 +235,18 @@ impl Session {
         }
     }
 
-    fn answer_asked<F: Faulty>(&mut self, held: &mut Held<F>, asked: Asked) {
+    fn answer_asked<R: Threads + Sync, F: Faulty>(
+        &mut self,
+        rt: &R,
+        held: &mut Held<F>,
+        asked: Asked,
+    ) {
         match asked {
             Asked::Settings(asked) => answer_settings(&mut self.line, &mut self.config, asked),
             Asked::Log(asked) => answer_log(&mut self.line, &self.config, held, asked),
             Asked::Batch(asked) => self.writing.answer(&mut self.line, asked),
             Asked::Files(asked) => self.answer_files(held, asked),
+            Asked::Copy(asked) => self.answer_copy(rt, held, asked),
             Asked::Program(asked) => self.program.answer(&mut self.line, asked),
             Asked::Call(asked) => self.answer_call(held, asked),
             Asked::Look(asked) => self.answer_look(held, asked),
@@ -245,8 +265,9 @@ impl Session {
     }
 
     /// Carries out a line, which then has its result.
-    pub(crate) fn answer<F: Faulty>(
+    pub(crate) fn answer<R: Threads + Sync, F: Faulty>(
         &mut self,
+        rt: &R,
         held: &mut Held<F>,
         asked: &str,
     ) -> Result<(), AllocError> {
@@ -256,7 +277,7 @@ impl Session {
             return Ok(());
         }
         match self.line.read(asked)? {
-            Some(asked) => self.answer_asked(held, asked),
+            Some(asked) => self.answer_asked(rt, held, asked),
             None => self.line.bad(),
         }
         Ok(())

@@ -4,6 +4,10 @@ use crate::line::BAD_LINE;
 use crate::session::Session;
 use raft_test_rows::{Faulty, Held};
 use std::alloc::{AllocError, Global};
+use std::thread::Threads;
+
+/// In place of an expected result: every result is right.
+const EVERY: &str = "..";
 
 /// The counts of a played file.
 #[derive(Drop)]
@@ -31,11 +35,18 @@ fn parts(line: &str) -> (&str, Option<&str>) {
     }
 }
 
+fn has_answer(wanted: Option<&str>) -> bool {
+    match wanted {
+        Some(wanted) => wanted != EVERY,
+        None => false,
+    }
+}
+
 // A line without an expected result accepts all results except `refused ..` and `no`.
 fn is_right(answered: &str, wanted: Option<&str>) -> bool {
     match wanted {
         _ if answered == BAD_LINE => false,
-        Some(wanted) => answered == wanted,
+        Some(wanted) => wanted == EVERY || answered == wanted,
         None => !answered.starts_with("refused") && answered != "no",
     }
 }
@@ -51,7 +62,7 @@ impl Tally {
         answered: &str,
     ) -> Result<(), AllocError> {
         self.lines = self.lines.saturating_add(1);
-        if wanted.is_some() {
+        if has_answer(wanted) {
             self.answers = self.answers.saturating_add(1);
         }
         if is_right(answered, wanted) {
@@ -65,8 +76,9 @@ impl Tally {
         Ok(())
     }
 
-    fn play_line<F: Faulty>(
+    fn play_line<R: Threads + Sync, F: Faulty>(
         &mut self,
+        rt: &R,
         alloc: Global,
         session: &mut Session,
         held: &mut Held<F>,
@@ -78,18 +90,23 @@ impl Tally {
             return session.renew(held);
         }
         let (asked, wanted) = parts(line);
-        session.answer(held, asked)?;
+        session.answer(rt, held, asked)?;
         self.count(alloc, number, line, wanted, session.line.answer())
     }
 }
 
 /// Plays the lines over new files of this kind.
-pub(crate) fn play<F: Faulty>(alloc: Global, text: &str) -> Result<Tally, AllocError> {
+pub(crate) fn play<R: Threads + Sync, F: Faulty>(
+    rt: &R,
+    alloc: Global,
+    text: &str,
+) -> Result<Tally, AllocError> {
     let mut held: Held<F> = Held::Nothing;
-    play_lines(alloc, &mut held, text)
+    play_lines(rt, alloc, &mut held, text)
 }
 
-fn play_lines<F: Faulty>(
+fn play_lines<R: Threads + Sync, F: Faulty>(
+    rt: &R,
     alloc: Global,
     held: &mut Held<F>,
     text: &str,
@@ -105,7 +122,7 @@ fn play_lines<F: Faulty>(
     for (place, line) in text.lines().enumerate() {
         if !line.is_empty() && !line.starts_with("#") {
             let number = place.saturating_add(1);
-            tally.play_line(alloc, &mut session, held, number, line)?;
+            tally.play_line(rt, alloc, &mut session, held, number, line)?;
         }
     }
     Ok(tally)

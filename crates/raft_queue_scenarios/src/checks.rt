@@ -2,8 +2,7 @@
 
 use crate::failing::Failing;
 use crate::folders::{HEADER, stores_all};
-use crate::told::{assert_at, assert_row};
-use crate::tried::{Tried, holds_in_memory};
+use crate::tried::Tried;
 use raft_consistency::{consistency_check, consistency_check_with_file_system};
 use raft_memory::MemoryFileSystem;
 use raft_records::Fault;
@@ -41,27 +40,26 @@ pub(crate) const APPEND_3: FileParts = ("data/0000000000000003.raftlog", &[HEADE
 /// Log files, the folder to check, and the groups with holes in it, or the code of the fault with
 /// which the check fails.
 pub(crate) struct Case {
-    name: &'static str,
     stored: &'static [FileParts],
     path: &'static str,
     wanted: Result<&'static [(u64, u64)], u8>,
 }
 
-static CASES: [Case; 7] = [
-    Case {
-        name: "two groups have a hole",
+pub(crate) static CASES: [Tried; 7] = [
+    // Two groups have a hole.
+    Tried::Holes(&Case {
         stored: &[APPEND_1, APPEND_2, APPEND_3],
         path: "data",
         wanted: Ok(&[(2, 1), (7, 3)]),
-    },
-    Case {
-        name: "no hole",
+    }),
+    // No hole.
+    Tried::Holes(&Case {
         stored: &[APPEND_1, ("data/0000000000000002.raftlog", &[HEADER, FOUR])],
         path: "data",
         wanted: Ok(&[]),
-    },
-    Case {
-        name: "the Rewrite queue's hole comes before the Append queue's",
+    }),
+    // The Rewrite queue's hole comes before the Append queue's.
+    Tried::Holes(&Case {
         stored: &[
             APPEND_1,
             APPEND_2,
@@ -69,9 +67,9 @@ static CASES: [Case; 7] = [
         ],
         path: "data",
         wanted: Ok(&[(7, 1)]),
-    },
-    Case {
-        name: "a hole behind broken bytes",
+    }),
+    // A hole behind broken bytes.
+    Tried::Holes(&Case {
         stored: &[
             (
                 "data/0000000000000001.raftlog",
@@ -81,25 +79,25 @@ static CASES: [Case; 7] = [
         ],
         path: "data",
         wanted: Ok(&[(7, 3)]),
-    },
-    Case {
-        name: "a file below a missing number is no part of the log",
+    }),
+    // A file below a missing number is no part of the log.
+    Tried::Holes(&Case {
         stored: &[APPEND_1, APPEND_3],
         path: "data",
         wanted: Ok(&[(2, 1)]),
-    },
-    Case {
-        name: "no log file",
+    }),
+    // No log file.
+    Tried::Holes(&Case {
         stored: &[("data/other", &[HEADER])],
         path: "data",
         wanted: Ok(&[]),
-    },
-    Case {
-        name: "no folder",
+    }),
+    // No folder.
+    Tried::Holes(&Case {
         stored: &[APPEND_1],
         path: "more",
         wanted: Err(1),
-    },
+    }),
 ];
 
 // Whether a check has the wanted result.
@@ -123,21 +121,12 @@ pub(crate) fn is_found<F: Failing>(alloc: Global, case: &Case) -> bool {
     is_wanted(found, &case.wanted)
 }
 
-// The same with the check of files in memory.
-fn is_found_in_memory(alloc: Global, case: &Case) -> bool {
+/// The same with the check of files in memory.
+pub(crate) fn is_found_in_memory(alloc: Global, case: &Case) -> bool {
     let mut files = MemoryFileSystem::new(alloc);
     if !stores_all(&mut files, case.stored) {
         return false;
     }
     let found = consistency_check(alloc, case.path, files);
     is_wanted(found, &case.wanted)
-}
-
-#[test]
-fn holes_are_found_in_folders(rt: HostRuntime) {
-    for (place, case) in CASES.iter().enumerate() {
-        let held = holds_in_memory(rt.alloc(), &Tried::Holes(case));
-        assert_row(&rt, held, case.name);
-        assert_at(&rt, is_found_in_memory(rt.alloc(), case), case.name, place);
-    }
 }

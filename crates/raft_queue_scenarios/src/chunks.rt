@@ -9,8 +9,8 @@ use raft_replay::{InOrder, Read, RecoveryMachine, SideBySide, read_of};
 use std::alloc::Global;
 use std::thread::Threads;
 
-/// Batches of the Rewrite queue, two chunks of the Append queue, and what is recovered: the first
-/// and the last index, and whether the key exists.
+/// Batches of the Rewrite queue, two chunks of the Append queue, and the recovered group: its first
+/// and last index, and whether the key exists.
 struct Case {
     name: &'static str,
     rewritten: &'static [Step],

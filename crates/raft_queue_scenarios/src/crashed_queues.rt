@@ -3,12 +3,10 @@
 ghost use Rattle.std.specs.Prelude.{IfOk, OnOk};
 ghost use Rattle.raft_queues.specs.Dual.{StandSideBySide};
 
-use crate::crashed_rows::{Case, Left, ONE_EACH, Opening, Step, cases, openings};
+use crate::crashed_rows::{Case, Left, ONE_EACH, Opening, Step};
 use crate::failing::Failing;
 use crate::folders::begun;
 use crate::keys::Keys;
-use crate::told::assert_row;
-use crate::tried::{Tried, holds_in_memory};
 use crate::two_queues::{code_of, read_keys, staged};
 use raft_builder::DualPipesBuilder;
 use raft_env::{FileSystem, IoKind};
@@ -41,7 +39,7 @@ pub(crate) fn opened<F: FileSystem + Drop>(
 ) -> Result<(DualPipes<F>, F), Fault>
     ensures stands { IfOk result (λ done. StandSideBySide done.0 (F.directory done.1)) }
 {
-    let mut builder = begun(alloc, fs)?;
+    let mut builder = begun(alloc, None, fs)?;
     *keys = recover(alloc, &mut builder)?;
     match builder.finish() {
         Ok((pipes, fs)) => Ok((pipes, fs)),
@@ -206,7 +204,7 @@ fn refusing<F: Failing>(alloc: Global, opening: &Opening) -> Result<F, Fault> {
 pub(crate) fn ends_as_said<F: Failing>(alloc: Global, opening: &Opening) -> bool {
     let refusing: Result<F, Fault> = refusing(alloc, opening);
     let done = match refusing {
-        Ok(fs) => staged(alloc, fs, opening.stages),
+        Ok(fs) => staged(alloc, None, fs, opening.stages),
         Err(_) => None,
     };
     match done {
@@ -215,23 +213,5 @@ pub(crate) fn ends_as_said<F: Failing>(alloc: Global, opening: &Opening) -> bool
                 && reads(alloc, left, &[(1, b'a')], &[(1, b'b')]).is_some()
         }
         None => false,
-    }
-}
-
-#[test]
-fn crashed_queues_are_read_in_stages(rt: HostRuntime) {
-    for cases in &cases() {
-        for case in *cases {
-            let held = holds_in_memory(rt.alloc(), &Tried::Crash(case));
-            assert_row(&rt, held, case.name);
-        }
-    }
-}
-
-#[test]
-fn an_opening_ends_once_all_is_read(rt: HostRuntime) {
-    for opening in openings() {
-        let held = holds_in_memory(rt.alloc(), &Tried::End(opening));
-        assert_row(&rt, held, opening.name);
     }
 }

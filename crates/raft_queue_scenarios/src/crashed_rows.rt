@@ -1,6 +1,7 @@
-//! Both queues of a folder, crashed or opened in stages, as rows: the steps, and what is then read
-//! of each queue.
+//! Both queues of a folder, crashed or opened in stages, as rows: the steps, and then the batches
+//! that are read of each queue.
 
+use crate::tried::Tried;
 use crate::two_queues::Step as Stage;
 use LogQueue::{Append, Rewrite};
 use raft_memory::FsCall;
@@ -10,8 +11,8 @@ use raft_records::LogQueue;
 pub(crate) enum Left {
     Now,
     Synced,
-    /// Of the bytes written since the last sync only the first ones, as many as this number. The
-    /// others have this value.
+    /// Only the first of the bytes written since the last sync, as many as this number. The others
+    /// have this value.
     Torn(usize, u8),
 }
 
@@ -25,26 +26,25 @@ pub(crate) enum Step {
     Purge(LogQueue, u64),
 }
 
-/// Steps that begin without files, what a crash leaves, and what is then read of the Append queue
-/// and of the Rewrite queue: the file's number and the key of each batch.
+/// Steps that begin without files, the result of a crash, and then the batches that are read of the
+/// Append queue and of the Rewrite queue, each as its file's number and its key.
 pub(crate) struct Case {
-    pub name: &'static str,
     pub steps: &'static [Step],
     pub left: Left,
     pub append: &'static [(u64, u8)],
     pub rewrite: &'static [(u64, u8)],
 }
 
-static IN_ONE_FILE: [Case; 3] = [
-    Case {
-        name: "nothing was written",
+pub(crate) static IN_ONE_FILE: [Tried; 3] = [
+    // Nothing was written.
+    Tried::Crash(&Case {
         steps: &[],
         left: Left::Synced,
         append: &[],
         rewrite: &[],
-    },
-    Case {
-        name: "both queues are synced",
+    }),
+    // Both queues are synced.
+    Tried::Crash(&Case {
         steps: &[
             Step::Put(Append, b'a', false),
             Step::Put(Rewrite, b'b', true),
@@ -53,9 +53,9 @@ static IN_ONE_FILE: [Case; 3] = [
         left: Left::Synced,
         append: &[(1, b'a'), (1, b'c')],
         rewrite: &[(1, b'b')],
-    },
-    Case {
-        name: "a sync of one queue leaves the other's batches unsynced",
+    }),
+    // A sync of one queue leaves the other's batches unsynced.
+    Tried::Crash(&Case {
         steps: &[
             Step::Put(Rewrite, b'a', true),
             Step::Put(Rewrite, b'b', false),
@@ -66,12 +66,12 @@ static IN_ONE_FILE: [Case; 3] = [
         left: Left::Synced,
         append: &[(1, b'c')],
         rewrite: &[(1, b'a')],
-    },
+    }),
 ];
 
-static IN_MORE: [Case; 5] = [
-    Case {
-        name: "all of both queues is left",
+pub(crate) static IN_MORE: [Tried; 5] = [
+    // All of both queues is left.
+    Tried::Crash(&Case {
         steps: &[
             Step::Put(Rewrite, b'a', false),
             Step::Put(Append, b'b', false),
@@ -81,9 +81,9 @@ static IN_MORE: [Case; 5] = [
         left: Left::Now,
         append: &[(1, b'b')],
         rewrite: &[(1, b'a'), (2, b'c')],
-    },
-    Case {
-        name: "a rotation of one queue leaves the other's batches unsynced",
+    }),
+    // A rotation of one queue leaves the other's batches unsynced.
+    Tried::Crash(&Case {
         steps: &[
             Step::Put(Append, b'a', false),
             Step::Put(Rewrite, b'b', false),
@@ -93,9 +93,9 @@ static IN_MORE: [Case; 5] = [
         left: Left::Synced,
         append: &[(1, b'a')],
         rewrite: &[],
-    },
-    Case {
-        name: "both queues are rotated",
+    }),
+    // Both queues are rotated.
+    Tried::Crash(&Case {
         steps: &[
             Step::Put(Append, b'a', false),
             Step::Put(Rewrite, b'b', false),
@@ -110,9 +110,9 @@ static IN_MORE: [Case; 5] = [
         left: Left::Synced,
         append: &[(1, b'a'), (2, b'd')],
         rewrite: &[(1, b'b'), (2, b'c'), (3, b'e')],
-    },
-    Case {
-        name: "the first files of a queue are deleted",
+    }),
+    // The first files of a queue are deleted.
+    Tried::Crash(&Case {
         steps: &[
             Step::Put(Append, b'a', true),
             Step::Rotate(Append),
@@ -126,9 +126,9 @@ static IN_MORE: [Case; 5] = [
         left: Left::Synced,
         append: &[(2, b'b'), (3, b'd')],
         rewrite: &[(1, b'c')],
-    },
-    Case {
-        name: "torn records of both queues",
+    }),
+    // Torn records of both queues.
+    Tried::Crash(&Case {
         steps: &[
             Step::Put(Append, b'a', true),
             Step::Put(Append, b'b', false),
@@ -138,14 +138,8 @@ static IN_MORE: [Case; 5] = [
         left: Left::Torn(26, 0xff),
         append: &[(1, b'a')],
         rewrite: &[(1, b'c')],
-    },
+    }),
 ];
-
-// A function is checked with the whole of each table that it names, and the time grows with the
-// square of its length.
-pub(crate) fn cases() -> [&'static [Case]; 2] {
-    [&IN_ONE_FILE, &IN_MORE]
-}
 
 /// Steps that leave both queues with one file each.
 pub(crate) const ONE_EACH: [Step; 2] = [
@@ -156,33 +150,32 @@ pub(crate) const ONE_EACH: [Step; 2] = [
 /// An opening of two queues of one file each: the call that fails, the stages, and the code with
 /// which finishing the opening fails.
 pub(crate) struct Opening {
-    pub name: &'static str,
     pub refused: Option<(FsCall, u64)>,
     pub stages: &'static [Stage],
     pub finished: Option<u8>,
 }
 
-static STAGED_ROWS: [Opening; 10] = [
-    Opening {
-        name: "nothing is read",
+pub(crate) static STAGED_ROWS: [Tried; 10] = [
+    // Nothing is read.
+    Tried::End(&Opening {
         refused: None,
         stages: &[Stage::Scan],
         finished: Some(15),
-    },
-    Opening {
-        name: "the Append queue is unread",
+    }),
+    // The Append queue is unread.
+    Tried::End(&Opening {
         refused: None,
         stages: &[Stage::Scan, Stage::Read(Rewrite, 1)],
         finished: Some(15),
-    },
-    Opening {
-        name: "the Rewrite queue is unread",
+    }),
+    // The Rewrite queue is unread.
+    Tried::End(&Opening {
         refused: None,
         stages: &[Stage::Scan, Stage::Read(Append, 1)],
         finished: Some(15),
-    },
-    Opening {
-        name: "a second scan begins anew",
+    }),
+    // A second scan begins anew.
+    Tried::End(&Opening {
         refused: None,
         stages: &[
             Stage::Scan,
@@ -191,9 +184,9 @@ static STAGED_ROWS: [Opening; 10] = [
             Stage::Scan,
         ],
         finished: Some(15),
-    },
-    Opening {
-        name: "a second scan fails",
+    }),
+    // A second scan fails.
+    Tried::End(&Opening {
         refused: Some((FsCall::List, 4)),
         stages: &[
             Stage::Scan,
@@ -203,9 +196,9 @@ static STAGED_ROWS: [Opening; 10] = [
             Stage::ReadRefused(Append, 15),
         ],
         finished: Some(15),
-    },
-    Opening {
-        name: "a scan fails for the Rewrite queue",
+    }),
+    // A scan fails for the Rewrite queue.
+    Tried::End(&Opening {
         refused: Some((FsCall::List, 2)),
         stages: &[
             Stage::ScanRefused(3),
@@ -213,9 +206,9 @@ static STAGED_ROWS: [Opening; 10] = [
             Stage::ReadRefused(Rewrite, 15),
         ],
         finished: Some(15),
-    },
-    Opening {
-        name: "a scan fails for the reserved files",
+    }),
+    // A scan fails for the reserved files.
+    Tried::End(&Opening {
         refused: Some((FsCall::List, 3)),
         stages: &[
             Stage::ScanRefused(3),
@@ -223,9 +216,9 @@ static STAGED_ROWS: [Opening; 10] = [
             Stage::ReadRefused(Rewrite, 15),
         ],
         finished: Some(15),
-    },
-    Opening {
-        name: "a scan after one that failed",
+    }),
+    // A scan after one that failed.
+    Tried::End(&Opening {
         refused: Some((FsCall::List, 1)),
         stages: &[
             Stage::ScanRefused(3),
@@ -234,9 +227,9 @@ static STAGED_ROWS: [Opening; 10] = [
             Stage::Read(Append, 1),
         ],
         finished: None,
-    },
-    Opening {
-        name: "a queue can't be read",
+    }),
+    // A queue can't be read.
+    Tried::End(&Opening {
         refused: Some((FsCall::NewReader, 2)),
         stages: &[
             Stage::Scan,
@@ -244,9 +237,9 @@ static STAGED_ROWS: [Opening; 10] = [
             Stage::ReadRefused(Rewrite, 3),
         ],
         finished: Some(15),
-    },
-    Opening {
-        name: "a queue is read again",
+    }),
+    // A queue is read again.
+    Tried::End(&Opening {
         refused: Some((FsCall::NewReader, 1)),
         stages: &[
             Stage::Scan,
@@ -255,9 +248,5 @@ static STAGED_ROWS: [Opening; 10] = [
             Stage::Read(Append, 1),
         ],
         finished: None,
-    },
+    }),
 ];
-
-pub(crate) fn openings() -> &'static [Opening] {
-    &STAGED_ROWS
-}

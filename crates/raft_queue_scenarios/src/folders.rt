@@ -11,11 +11,22 @@ use std::alloc::{AllocError, Global};
 pub(crate) const HEADER: &[u8] =
     b"RAFT-LOG-FILE-HEADER-9986AB3E47F320B394C8E84916EB0ED5\0\0\0\0\0\0\0\x02\0\0\0\0\0\0\0\0";
 
-/// Settings of one folder, in which no file is reused.
-pub(crate) fn settings(alloc: Global) -> Result<Config, AllocError> {
+/// The two folders of the settings; `None` is one folder, in which no file is reused.
+pub(crate) type Folders = Option<(&'static str, &'static str)>;
+
+/// Settings of these folders.
+pub(crate) fn settings(alloc: Global, folders: Folders) -> Result<Config, AllocError> {
     let mut config = Config::fresh(alloc);
-    config.dir.push_str("data")?;
-    config.enable_log_recycle = false;
+    match folders {
+        Some((main, spill)) => {
+            config.dir.push_str(main)?;
+            config.spill_dir = Some(String::from_str(alloc, spill)?);
+        }
+        None => {
+            config.dir.push_str("data")?;
+            config.enable_log_recycle = false;
+        }
+    }
     Ok(config)
 }
 
@@ -31,12 +42,13 @@ pub(crate) fn begun_in<F: FileSystem + Drop>(
     }
 }
 
-/// The same in the settings of one folder.
+/// The same in the settings of these folders.
 pub(crate) fn begun<F: FileSystem + Drop>(
     alloc: Global,
+    folders: Folders,
     fs: F,
 ) -> Result<DualPipesBuilder<F>, Fault> {
-    begun_in(alloc, &settings(alloc)?, fs)
+    begun_in(alloc, &settings(alloc, folders)?, fs)
 }
 
 /// Makes a file of these parts, and its folder if that doesn't exist.
@@ -59,7 +71,7 @@ pub(crate) fn stores_all<F: FileSystem>(fs: &mut F, files: &[FileParts]) -> bool
 }
 
 /// The length of a file in bytes.
-pub(crate) fn length_of<F: FileSystem>(fs: &mut F, path: &str) -> Option<usize> {
+fn length_of<F: FileSystem>(fs: &mut F, path: &str) -> Option<usize> {
     match fs.open(path, Permission::ReadOnly) {
         Ok(handle) => match fs.file_size(&handle) {
             Ok(len) => Some(len),
@@ -86,14 +98,6 @@ pub(crate) fn has_zeros<F: FileSystem>(alloc: Global, fs: &mut F, path: &str, le
     }
 }
 
-/// The number of files and folders in a folder.
-pub(crate) fn count_in<F: FileSystem>(fs: &mut F, folder: &str) -> Option<usize> {
-    match fs.list(folder) {
-        Ok(names) => Some(names.len()),
-        Err(_) => None,
-    }
-}
-
 /// Whether each byte has this value.
 pub(crate) fn are_all(bytes: &[u8], wanted: u8) -> bool {
     for byte in bytes {
@@ -114,8 +118,44 @@ pub(crate) fn have_lengths<F: FileSystem>(fs: &mut F, files: &[(&str, usize)]) -
     true
 }
 
-/// The same, and the folder has no other files.
-pub(crate) fn stand_alone<F: FileSystem>(fs: &mut F, files: &[(&str, usize)]) -> bool {
-    let folder = if fs.is_dir("data") { "data" } else { "" };
-    have_lengths(fs, files) && count_in(fs, folder) == Some(files.len())
+// The number of files and folders in a folder; 0 if it doesn't exist.
+fn count_below<F: FileSystem>(fs: &mut F, folder: &str) -> Option<usize> {
+    if !fs.is_dir(folder) {
+        return Some(0);
+    }
+    match fs.list(folder) {
+        Ok(names) => Some(names.len()),
+        Err(_) => None,
+    }
+}
+
+fn count_at_top(files: &[(&str, usize)]) -> usize {
+    let mut counted: usize = 0;
+    for (path, _) in files {
+        if !path.contains("/") {
+            counted = counted.saturating_add(1);
+        }
+    }
+    counted
+}
+
+/// Whether exactly these files exist, with these lengths.
+pub(crate) fn stand_alone<F: FileSystem>(
+    fs: &mut F,
+    folders: Folders,
+    files: &[(&str, usize)],
+) -> bool {
+    let (main, spill) = folders.unwrap_or(("data", "data"));
+    let spilled = if main == spill {
+        Some(0)
+    } else {
+        count_below(fs, spill)
+    };
+    match (count_below(fs, main), spilled) {
+        (Some(first), Some(second)) => {
+            let below = first.saturating_add(second);
+            have_lengths(fs, files) && below.saturating_add(count_at_top(files)) == files.len()
+        }
+        _ => false,
+    }
 }

@@ -1,12 +1,11 @@
-//! A queue of log files: the places of what is appended, what is read from them, and rotations to
+//! A queue of log files: the places of appended records, reads from these places, and rotations to
 //! next files.
 ghost use Rattle.std.specs.Prelude.{◌≡◌, true, IfOk};
 ghost use Rattle.raft_pipes.specs.Pipe.{IsPipeOf};
 
 use crate::failing::Failing;
 use crate::folders::{HEADER, are_all, settings, stand_alone, stores};
-use crate::told::assert_row;
-use crate::tried::{Tried, holds_in_memory};
+use crate::tried::Tried;
 use raft_env::FileSystem;
 use raft_opening::{ReplayMachine, read_files, settle_or_begin};
 use raft_pipes::{LogFolders, NewPipe, RotationFault, SinglePipe};
@@ -59,16 +58,15 @@ pub(crate) enum Step {
 /// A file that exists before the queue is opened, how many files are kept for reuse, the steps,
 /// and the files afterwards with their lengths.
 pub(crate) struct Case {
-    name: &'static str,
     found: Option<&'static str>,
     capacity: usize,
     steps: &'static [Step],
     files: &'static [(&'static str, usize)],
 }
 
-static ROWS: [Case; 3] = [
-    Case {
-        name: "three files",
+pub(crate) static ROWS: [Tried; 3] = [
+    // Three files.
+    Tried::Queue(&Case {
         found: None,
         capacity: 0,
         steps: &[
@@ -89,9 +87,9 @@ static ROWS: [Case; 3] = [
             ("data/0000000000000002.raftlog", 1093),
             ("data/0000000000000003.raftlog", 95),
         ],
-    },
-    Case {
-        name: "the first files are deleted",
+    }),
+    // The first files are deleted.
+    Tried::Queue(&Case {
         found: None,
         capacity: 0,
         steps: &[
@@ -111,9 +109,9 @@ static ROWS: [Case; 3] = [
             ("data/0000000000000002.raftlog", 1093),
             ("data/0000000000000003.raftlog", 82),
         ],
-    },
-    Case {
-        name: "no number after the last one",
+    }),
+    // No number after the last one.
+    Tried::Queue(&Case {
         found: Some("data/9999999999999999.raftlog"),
         capacity: 0,
         steps: &[
@@ -124,49 +122,44 @@ static ROWS: [Case; 3] = [
             Step::Read(9_999_999_999_999_999, 69, 1024, 1024),
         ],
         files: &[("data/9999999999999999.raftlog", 1093)],
-    },
+    }),
 ];
 
 /// Each file holds one record, since it is full with its header. Eleven files are dropped, and ten
 /// of them are reused, in order.
-static USED_AGAIN: [Case; 1] = [Case {
-    name: "files are used again",
-    found: None,
-    capacity: 1000,
-    steps: &[
-        Step::Span(1, 1, 1024),
-        Step::Ten(Each::Put(0, 2)),
-        Step::Rotate,
-        Step::Span(1, 12, 12_288),
-        Step::Purge(0, Err(14)),
-        Step::Purge(13, Err(14)),
-        Step::Purge(12, Ok(11)),
-        Step::Ten(Each::Gone(2)),
-        Step::Ten(Each::Put(1, 13)),
-        Step::Ten(Each::Read(1, 13)),
-        Step::Span(12, 22, 11_264),
-    ],
-    files: &[
-        ("data/0000000000000001.raftlog.reserved", 85),
-        ("data/0000000000000012.raftlog", 69),
-        ("data/0000000000000013.raftlog", 85),
-        ("data/0000000000000014.raftlog", 85),
-        ("data/0000000000000015.raftlog", 85),
-        ("data/0000000000000016.raftlog", 85),
-        ("data/0000000000000017.raftlog", 85),
-        ("data/0000000000000018.raftlog", 85),
-        ("data/0000000000000019.raftlog", 85),
-        ("data/0000000000000020.raftlog", 85),
-        ("data/0000000000000021.raftlog", 85),
-        ("data/0000000000000022.raftlog", 85),
-    ],
-}];
-
-// A function is checked with the whole of each table that it names, and the time grows with the
-// square of its length.
-fn cases() -> [&'static [Case]; 2] {
-    [&ROWS, &USED_AGAIN]
-}
+pub(crate) static USED_AGAIN: [Tried; 1] = [ // Files are used again.
+    Tried::Queue(&Case {
+        found: None,
+        capacity: 1000,
+        steps: &[
+            Step::Span(1, 1, 1024),
+            Step::Ten(Each::Put(0, 2)),
+            Step::Rotate,
+            Step::Span(1, 12, 12_288),
+            Step::Purge(0, Err(14)),
+            Step::Purge(13, Err(14)),
+            Step::Purge(12, Ok(11)),
+            Step::Ten(Each::Gone(2)),
+            Step::Ten(Each::Put(1, 13)),
+            Step::Ten(Each::Read(1, 13)),
+            Step::Span(12, 22, 11_264),
+        ],
+        files: &[
+            ("data/0000000000000001.raftlog.reserved", 85),
+            ("data/0000000000000012.raftlog", 69),
+            ("data/0000000000000013.raftlog", 85),
+            ("data/0000000000000014.raftlog", 85),
+            ("data/0000000000000015.raftlog", 85),
+            ("data/0000000000000016.raftlog", 85),
+            ("data/0000000000000017.raftlog", 85),
+            ("data/0000000000000018.raftlog", 85),
+            ("data/0000000000000019.raftlog", 85),
+            ("data/0000000000000020.raftlog", 85),
+            ("data/0000000000000021.raftlog", 85),
+            ("data/0000000000000022.raftlog", 85),
+        ],
+    }),
+];
 
 /// Takes batches and keeps none.
 #[derive(Drop)]
@@ -184,7 +177,7 @@ impl ReplayMachine for NoMachine {
 fn opened<F: FileSystem>(alloc: Global, fs: &mut F, capacity: usize) -> Result<SinglePipe<F>, Fault>
     ensures stands { IfOk result (λ pipe. IsPipeOf pipe (F.directory fs.new)) }
 {
-    let config = settings(alloc)?;
+    let config = settings(alloc, None)?;
     let folders = LogFolders::new(&config)?;
     folders.make(alloc, fs)?;
     let queue = LogQueue::Append;
@@ -389,15 +382,5 @@ pub(crate) fn is_as_said<F: Failing>(alloc: Global, case: &Case) -> bool {
         Some(path) => stores(&mut fs, path, &[HEADER]),
         None => true,
     };
-    is_stored && are_taken(alloc, &mut fs, case) && stand_alone(&mut fs, case.files)
-}
-
-#[test]
-fn one_queue(rt: HostRuntime) {
-    for cases in &cases() {
-        for case in *cases {
-            let held = holds_in_memory(rt.alloc(), &Tried::Queue(case));
-            assert_row(&rt, held, case.name);
-        }
-    }
+    is_stored && are_taken(alloc, &mut fs, case) && stand_alone(&mut fs, None, case.files)
 }

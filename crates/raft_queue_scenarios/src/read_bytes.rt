@@ -3,8 +3,7 @@
 use crate::crashed_queues::{no_keys, opened};
 use crate::failing::Failing;
 use crate::folders::stores_all;
-use crate::told::assert_at;
-use crate::tried::{Tried, holds_in_memory};
+use crate::tried::Tried;
 use crate::two_queues::{APPEND_1, APPEND_2, PUT_1, PUT_2, REWRITE_1};
 use raft_env::FileSystem;
 use raft_queues::DualPipes;
@@ -15,15 +14,15 @@ use std::alloc::Global;
 /// which the read fails.
 pub(crate) type Row = (LogQueue, u64, u64, usize, Result<&'static [u8], u8>);
 
-static ROWS: [Row; 8] = [
-    (LogQueue::Append, 1, 69, 28, Ok(PUT_1)),
-    (LogQueue::Append, 2, 69, 28, Ok(PUT_2)),
-    (LogQueue::Rewrite, 1, 69, 28, Ok(PUT_1)),
-    (LogQueue::Rewrite, 1, 97, 28, Ok(b"")),
-    (LogQueue::Append, 0, 69, 28, Err(14)),
-    (LogQueue::Append, 3, 69, 28, Err(14)),
-    (LogQueue::Append, 12, 69, 13, Err(14)),
-    (LogQueue::Rewrite, 2, 69, 28, Err(14)),
+pub(crate) static ROWS: [Tried; 8] = [
+    Tried::Bytes(&(LogQueue::Append, 1, 69, 28, Ok(PUT_1))),
+    Tried::Bytes(&(LogQueue::Append, 2, 69, 28, Ok(PUT_2))),
+    Tried::Bytes(&(LogQueue::Rewrite, 1, 69, 28, Ok(PUT_1))),
+    Tried::Bytes(&(LogQueue::Rewrite, 1, 97, 28, Ok(b""))),
+    Tried::Bytes(&(LogQueue::Append, 0, 69, 28, Err(14))),
+    Tried::Bytes(&(LogQueue::Append, 3, 69, 28, Err(14))),
+    Tried::Bytes(&(LogQueue::Append, 12, 69, 13, Err(14))),
+    Tried::Bytes(&(LogQueue::Rewrite, 2, 69, 28, Err(14))),
 ];
 
 fn has_bytes<F: FileSystem>(alloc: Global, fs: &mut F, pipes: &DualPipes<F>, row: &Row) -> bool {
@@ -53,13 +52,5 @@ pub(crate) fn is_read<F: Failing>(alloc: Global, row: &Row) -> bool {
             is_so
         }
         Err(_) => false,
-    }
-}
-
-#[test]
-fn bytes_of_both_queues_are_read(rt: HostRuntime) {
-    for (place, row) in ROWS.iter().enumerate() {
-        let held = holds_in_memory(rt.alloc(), &Tried::Bytes(row));
-        assert_at(&rt, held, "row", place);
     }
 }

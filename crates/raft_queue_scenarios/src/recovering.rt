@@ -159,7 +159,7 @@ fn reads_queue<R: Threads + Sync, F: FileSystem + Drop>(
     }
 }
 
-/// Whether the expected keys are found if only this queue is read, in a mode of its own.
+/// Whether the expected keys are found if only this queue is read, in its own mode.
 pub(crate) fn is_read_alone<R: Threads + Sync, F: Failing>(
     rt: &R,
     alloc: Global,

@@ -3,8 +3,7 @@
 use crate::checks::{APPEND_1, APPEND_2, APPEND_3};
 use crate::failing::Failing;
 use crate::folders::stores_all;
-use crate::told::assert_at;
-use crate::tried::{Tried, holds_in_memory};
+use crate::tried::Tried;
 use raft_consistency::consistency_check_with_file_system;
 use raft_env::{FileSystem, IoKind};
 use raft_memory::{FsCall, MemoryFileSystem};
@@ -17,18 +16,27 @@ const FILES: &[FileParts] = &[APPEND_1, APPEND_2, APPEND_3];
 
 const HOLES: &[(u64, u64)] = &[(2, 1), (7, 3)];
 
-/// A sort of calls, and the least number of them in a check of three files.
-pub(crate) struct Sort(FsCall, u64);
+/// A sort of calls, the least number of them in a check of three files, and the kind of fault with
+/// which one fails.
+pub(crate) struct Sort(FsCall, u64, IoKind);
 
-static SORTS: [Sort; 5] = [
-    Sort(FsCall::List, 1),
-    Sort(FsCall::Open, 3),
-    Sort(FsCall::NewReader, 3),
-    Sort(FsCall::FileSize, 3),
-    Sort(FsCall::Read, 3),
+pub(crate) static SORTS: [Tried; 15] = [
+    Tried::RefusedCheck(&Sort(FsCall::List, 1, IoKind::NoSpace)),
+    Tried::RefusedCheck(&Sort(FsCall::List, 1, IoKind::NotFound)),
+    Tried::RefusedCheck(&Sort(FsCall::List, 1, IoKind::Other)),
+    Tried::RefusedCheck(&Sort(FsCall::Open, 3, IoKind::NoSpace)),
+    Tried::RefusedCheck(&Sort(FsCall::Open, 3, IoKind::NotFound)),
+    Tried::RefusedCheck(&Sort(FsCall::Open, 3, IoKind::Other)),
+    Tried::RefusedCheck(&Sort(FsCall::NewReader, 3, IoKind::NoSpace)),
+    Tried::RefusedCheck(&Sort(FsCall::NewReader, 3, IoKind::NotFound)),
+    Tried::RefusedCheck(&Sort(FsCall::NewReader, 3, IoKind::Other)),
+    Tried::RefusedCheck(&Sort(FsCall::FileSize, 3, IoKind::NoSpace)),
+    Tried::RefusedCheck(&Sort(FsCall::FileSize, 3, IoKind::NotFound)),
+    Tried::RefusedCheck(&Sort(FsCall::FileSize, 3, IoKind::Other)),
+    Tried::RefusedCheck(&Sort(FsCall::Read, 3, IoKind::NoSpace)),
+    Tried::RefusedCheck(&Sort(FsCall::Read, 3, IoKind::NotFound)),
+    Tried::RefusedCheck(&Sort(FsCall::Read, 3, IoKind::Other)),
 ];
-
-const KINDS: [IoKind; 3] = [IoKind::NoSpace, IoKind::NotFound, IoKind::Other];
 
 /// More calls of one sort than a check makes.
 const MANY: u64 = 50;
@@ -74,25 +82,15 @@ fn fails_at<F: Failing>(alloc: Global, call: FsCall, nth: u64, kind: IoKind) -> 
 
 /// Whether each call of the sort fails the check, a check makes at least the row's number of them,
 /// and there is no other outcome.
-pub(crate) fn fails_each_time<F: Failing>(alloc: Global, sort: &Sort, kind: IoKind) -> bool {
+pub(crate) fn fails_each_time<F: Failing>(alloc: Global, sort: &Sort) -> bool {
     for nth in 1..MANY {
-        match fails_at::<F>(alloc, sort.0, nth, kind) {
+        match fails_at::<F>(alloc, sort.0, nth, sort.2) {
             Some(true) => {}
             Some(false) => return nth > sort.1,
             None => return false,
         }
     }
     false
-}
-
-#[test]
-fn a_failing_call_fails_the_check(rt: HostRuntime) {
-    for (place, sort) in SORTS.iter().enumerate() {
-        for kind in &KINDS {
-            let held = holds_in_memory(rt.alloc(), &Tried::RefusedCheck(sort, *kind));
-            assert_at(&rt, held, "sort", place);
-        }
-    }
 }
 
 // Whether a check finds all holes. If the Nth request for memory is refused (`rt try --test

@@ -2,57 +2,43 @@
 
 use crate::crashed_queues::recover;
 use crate::failing::Failing;
-use crate::folders::{self, begun_in, has_zeros, length_of, stores};
+use crate::folders::{HEADER, begun_in, has_zeros, have_lengths, settings, stores};
 use crate::reserved_rows::{
-    Answer, CLEARED, Cleared, PREFILLED, Prefilled, RESERVED_1, RESERVED_2, RESERVED_3, RESERVED_4,
-    ROOM, Room,
+    Answer, Cleared, FILE_7, FILE_8, FILE_9, Prefilled, RESERVED_1, RESERVED_2, RESERVED_3,
+    RESERVED_4, Refused, Room,
 };
-use crate::told::assert_row;
-use crate::tried::{Tried, holds_in_memory};
-use crate::two_folders::settings;
 use crate::two_queues::finished;
 use raft_config::Config;
-use raft_env::{FileSystem, IoKind};
-use raft_files::FileNameExt;
-use raft_memory::FsCall;
+use raft_env::FileSystem;
 use raft_opening::clear_metadata;
 use raft_opening::prefill::{SpareLimits, prefill};
 use raft_pipes::{LogFolders, SpareFile};
-use raft_records::{Fault, FileId, LogQueue, ReadableSize};
+use raft_records::{Fault, LogQueue, ReadableSize};
 use std::alloc::Global;
 
-fn path_of(alloc: Global, seq: u64) -> Result<String, Fault> {
-    FileId::new(LogQueue::Append, seq).build_file_path(alloc, "data")
-}
-
-// Gives metadata to the file of this number.
-fn notes<F: Failing>(alloc: Global, fs: &mut F, seq: u64) -> bool {
-    match path_of(alloc, seq) {
-        Ok(path) => fs.note(path.as_str()).is_ok(),
-        Err(_) => false,
-    }
-}
-
-fn notes_all<F: Failing>(alloc: Global, fs: &mut F, seqs: &[u64]) -> bool {
-    for seq in seqs {
-        if !notes(alloc, fs, *seq) {
+// Gives metadata to these files.
+fn notes_all<F: Failing>(fs: &mut F, paths: &[&str]) -> bool {
+    for path in paths {
+        if fs.note(path).is_err() {
             return false;
         }
     }
     true
 }
 
-fn has_metadata<F: FileSystem>(alloc: Global, fs: &F, seq: u64) -> Option<bool> {
-    match path_of(alloc, seq) {
-        Ok(path) => Some(fs.exists_metadata(path.as_str())),
-        Err(_) => None,
+fn is_among(path: &str, paths: &[&str]) -> bool {
+    for found in paths {
+        if *found == path {
+            return true;
+        }
     }
+    false
 }
 
 // Whether of the files that had metadata exactly these still have some.
-fn are_left<F: FileSystem>(alloc: Global, fs: &F, had: &[u64], left: &[u64]) -> bool {
-    for seq in had {
-        if has_metadata(alloc, fs, *seq) != Some(left.contains(seq)) {
+fn are_left<F: FileSystem>(fs: &F, had: &[&str], left: &[&str]) -> bool {
+    for path in had {
+        if fs.exists_metadata(path) != is_among(path, left) {
             return false;
         }
     }
@@ -61,28 +47,27 @@ fn are_left<F: FileSystem>(alloc: Global, fs: &F, had: &[u64], left: &[u64]) -> 
 
 // Removes the metadata before the first file of the Append queue, in one folder.
 fn clear<F: FileSystem>(alloc: Global, fs: &mut F, first: u64) -> Result<(), Fault> {
-    let folders = LogFolders::new(&folders::settings(alloc)?)?;
+    let folders = LogFolders::new(&settings(alloc, None)?)?;
     clear_metadata(alloc, &folders, LogQueue::Append, first, fs)
 }
 
-// Lets the nth call of a sort fail, if there is an n.
-fn refuses<F: Failing>(fs: &mut F, call: FsCall, nth: Option<u64>) -> bool {
-    match nth {
-        Some(nth) => fs.fail(call, nth, IoKind::Other).is_ok(),
+fn refuses<F: Failing>(fs: &mut F, refused: &Refused) -> bool {
+    match refused {
+        Some((call, nth, kind)) => fs.fail(*call, *nth, *kind).is_ok(),
         None => true,
     }
 }
 
 pub(crate) fn is_cleared<F: Failing>(alloc: Global, row: &Cleared) -> bool {
     let mut fs = F::fresh(alloc);
-    notes_all(alloc, &mut fs, row.had)
-        && refuses(&mut fs, FsCall::DeleteMetadata, row.refused)
+    notes_all(&mut fs, row.had)
+        && refuses(&mut fs, &row.refused)
         && clear(alloc, &mut fs, row.first).is_ok()
-        && are_left(alloc, &fs, row.had, row.left)
+        && are_left(&fs, row.had, row.left)
 }
 
 fn both_folders(alloc: Global) -> Result<LogFolders, Fault> {
-    LogFolders::new(&settings(alloc, &("data", "more"))?)
+    LogFolders::new(&settings(alloc, Some(("data", "more")))?)
 }
 
 // The index of the folder that gets a new file of 1024 bytes.
@@ -97,7 +82,7 @@ pub(crate) fn is_placed<F: Failing>(alloc: Global, row: &Room) -> bool {
     let mut fs = F::fresh(alloc);
     fs.free_to("data", row.free.0).is_ok()
         && fs.free_to("more", row.free.1).is_ok()
-        && refuses(&mut fs, FsCall::FreeSpace, row.refused)
+        && refuses(&mut fs, &row.refused)
         && place(alloc, &mut fs) == Some(row.place)
 }
 
@@ -127,13 +112,10 @@ fn makes_files<F: FileSystem>(fs: &mut F, paths: &[&str]) -> bool {
     true
 }
 
-fn has_len<F: FileSystem>(fs: &mut F, path: &str, len: Option<usize>) -> bool {
-    length_of(fs, path) == len && fs.is_file(path) == len.is_some()
-}
-
-fn have_lengths<F: FileSystem>(fs: &mut F, files: &[(&str, Option<usize>)]) -> bool {
-    for (path, len) in files {
-        if !has_len(fs, path, *len) {
+// Whether no file has one of the paths.
+fn are_gone<F: FileSystem>(fs: &F, paths: &[&str]) -> bool {
+    for path in paths {
+        if fs.is_file(path) {
             return false;
         }
     }
@@ -161,15 +143,9 @@ fn comes_to<F: FileSystem>(alloc: Global, fs: &mut F, row: &Prefilled) -> bool {
         Ok(folders) => {
             is_answer(made_ahead(alloc, fs, &folders, row), &row.spare)
                 && have_lengths(fs, row.after)
+                && are_gone(fs, row.gone)
         }
         Err(_) => false,
-    }
-}
-
-fn refuses_call<F: Failing>(fs: &mut F, refused: &Option<(FsCall, u64, IoKind)>) -> bool {
-    match refused {
-        Some((call, nth, kind)) => fs.fail(*call, *nth, *kind).is_ok(),
-        None => true,
     }
 }
 
@@ -179,7 +155,7 @@ pub(crate) fn is_prefilled<F: Failing>(alloc: Global, row: &Prefilled) -> bool {
     fs.make_dir("data").is_ok()
         && fs.make_dir("more").is_ok()
         && makes_files(&mut fs, row.stored)
-        && refuses_call(&mut fs, &row.refused)
+        && refuses(&mut fs, &row.refused)
         && comes_to(alloc, &mut fs, row)
 }
 
@@ -201,7 +177,7 @@ fn opened<F: FileSystem + Drop>(alloc: Global, config: &Config, files: F) -> Opt
 
 // Settings with four spare files of 1024 bytes, which are made at the opening or not.
 fn spare_settings(alloc: Global, is_prefilling: bool) -> Result<Config, Fault> {
-    let mut config = folders::settings(alloc)?;
+    let mut config = settings(alloc, None)?;
     config.enable_log_recycle = true;
     config.target_file_size = ReadableSize(1024);
     config.purge_threshold = ReadableSize(3072);
@@ -210,110 +186,64 @@ fn spare_settings(alloc: Global, is_prefilling: bool) -> Result<Config, Fault> {
     Ok(config)
 }
 
-// Whether the file has this number of zeros; if none is given, whether no file has the path.
-fn is_reserved<F: FileSystem>(alloc: Global, fs: &mut F, path: &str, len: Option<usize>) -> bool {
-    let has_zeros = match len {
-        Some(len) => has_zeros(alloc, fs, path, len),
-        None => true,
-    };
-    has_zeros && has_len(fs, path, len)
+// The files after an opening that makes reserved files, or deletes them.
+fn reopened<F: FileSystem + Drop>(alloc: Global, files: F, is_prefilling: bool) -> Option<F> {
+    match spare_settings(alloc, is_prefilling) {
+        Ok(config) => opened(alloc, &config, files),
+        Err(_) => None,
+    }
 }
 
-fn are_reserved<F: FileSystem>(alloc: Global, fs: &mut F, len: Option<usize>) -> bool {
-    for path in &[RESERVED_1, RESERVED_2, RESERVED_3, RESERVED_4] {
-        if !is_reserved(alloc, fs, path, len) {
+/// The reserved files, with their lengths.
+const MADE: [(&str, usize); 4] = [
+    (RESERVED_1, 1024),
+    (RESERVED_2, 1024),
+    (RESERVED_3, 1024),
+    (RESERVED_4, 1024),
+];
+
+fn are_zeros<F: FileSystem>(alloc: Global, fs: &mut F) -> bool {
+    for (path, len) in &MADE {
+        if !has_zeros(alloc, fs, path, *len) {
             return false;
         }
     }
-    true
+    have_lengths(fs, &MADE)
 }
 
-// The files after an opening that makes reserved files of this length, or deletes them.
-fn reserved<F: FileSystem + Drop>(alloc: Global, files: F, len: Option<usize>) -> Option<F> {
-    let opened = match spare_settings(alloc, len.is_some()) {
-        Ok(config) => opened(alloc, &config, files),
-        Err(_) => None,
-    };
-    match opened {
+/// Whether an opening makes reserved files, and the next one deletes them.
+pub(crate) fn are_made_and_deleted<F: Failing>(alloc: Global) -> bool {
+    let made: Option<F> = reopened(alloc, F::fresh(alloc), true);
+    let left = match made {
         Some(mut files) => {
-            if are_reserved(alloc, &mut files, len) {
-                Some(files)
+            if are_zeros(alloc, &mut files) {
+                reopened(alloc, files, false)
             } else {
                 None
             }
         }
         None => None,
-    }
-}
-
-pub(crate) fn are_made_and_deleted<F: Failing>(alloc: Global) -> bool {
-    match reserved(alloc, F::fresh(alloc), Some(1024)) {
-        Some(files) => reserved(alloc, files, None).is_some(),
+    };
+    match left {
+        Some(files) => are_gone(&files, &[RESERVED_1, RESERVED_2, RESERVED_3, RESERVED_4]),
         None => false,
     }
 }
 
-// A file of number 200, and metadata of earlier numbers.
-fn stores_and_notes<F: Failing>(alloc: Global, files: &mut F) -> bool {
-    match path_of(alloc, 200) {
-        Ok(path) => {
-            stores(files, path.as_str(), &[folders::HEADER]) && notes_all(alloc, files, &[7, 8, 9])
-        }
-        Err(_) => false,
-    }
-}
+/// The files that have metadata before an opening.
+const NOTED: [&str; 3] = [FILE_7, FILE_8, FILE_9];
 
+/// Whether an opening whose first file has the number 200 removes the metadata of earlier numbers.
 pub(crate) fn scan_clears<F: Failing>(alloc: Global) -> bool {
     let mut files = F::fresh(alloc);
-    let are_stored = stores_and_notes(alloc, &mut files);
-    let opened = match folders::settings(alloc) {
+    let are_stored = stores(&mut files, "data/0000000000000200.raftlog", &[HEADER])
+        && notes_all(&mut files, &NOTED);
+    let opened = match settings(alloc, None) {
         Ok(config) => opened(alloc, &config, files),
         Err(_) => None,
     };
     match opened {
-        Some(files) => are_stored && are_left(alloc, &files, &[7, 8, 9], &[]),
+        Some(files) => are_stored && are_left(&files, &NOTED, &[]),
         None => false,
-    }
-}
-
-#[test]
-fn an_opening_makes_reserved_files(rt: HostRuntime) {
-    assert_row(
-        &rt,
-        holds_in_memory(rt.alloc(), &Tried::Reserved),
-        "reserved files",
-    );
-}
-
-#[test]
-fn a_scan_clears_metadata(rt: HostRuntime) {
-    assert_row(
-        &rt,
-        holds_in_memory(rt.alloc(), &Tried::ScanClears),
-        "metadata",
-    );
-}
-
-#[test]
-fn metadata_before_a_first_file_are_cleared(rt: HostRuntime) {
-    for row in &CLEARED {
-        let held = holds_in_memory(rt.alloc(), &Tried::Clearing(row));
-        assert_row(&rt, held, row.name);
-    }
-}
-
-#[test]
-fn a_new_file_goes_where_there_is_room(rt: HostRuntime) {
-    for row in &ROOM {
-        let held = holds_in_memory(rt.alloc(), &Tried::Placing(row));
-        assert_row(&rt, held, row.name);
-    }
-}
-
-#[test]
-fn reserved_files_are_made(rt: HostRuntime) {
-    for row in &PREFILLED {
-        let held = holds_in_memory(rt.alloc(), &Tried::Prefilling(row));
-        assert_row(&rt, held, row.name);
     }
 }

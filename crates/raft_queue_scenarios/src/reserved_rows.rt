@@ -1,5 +1,6 @@
 //! Reserved files, the folder of a new file, and metadata of deleted files, as rows.
 
+use crate::tried::Tried;
 use raft_env::IoKind;
 use raft_memory::FsCall;
 
@@ -11,117 +12,131 @@ pub(crate) const RESERVED_3: &str = "data/0000000000000003.raftlog.reserved";
 
 pub(crate) const RESERVED_4: &str = "data/0000000000000004.raftlog.reserved";
 
-/// Numbers whose Append files have metadata before a first file, and those that still have it
-/// after the removal, in which one deletion may fail.
+const FILE_0: &str = "data/0000000000000000.raftlog";
+
+const FILE_1: &str = "data/0000000000000001.raftlog";
+
+const FILE_3: &str = "data/0000000000000003.raftlog";
+
+const FILE_4: &str = "data/0000000000000004.raftlog";
+
+const FILE_5: &str = "data/0000000000000005.raftlog";
+
+pub(crate) const FILE_7: &str = "data/0000000000000007.raftlog";
+
+pub(crate) const FILE_8: &str = "data/0000000000000008.raftlog";
+
+pub(crate) const FILE_9: &str = "data/0000000000000009.raftlog";
+
+/// A call that fails: its sort, its number among those, and the kind of fault.
+pub(crate) type Refused = Option<(FsCall, u64, IoKind)>;
+
+/// Append files that have metadata before a first file, and those that still have it after the
+/// removal, in which one deletion may fail.
 pub(crate) struct Cleared {
-    pub name: &'static str,
     pub first: u64,
-    pub had: &'static [u64],
-    /// The number of the deletion of metadata that fails.
-    pub refused: Option<u64>,
-    pub left: &'static [u64],
+    pub had: &'static [&'static str],
+    pub refused: Refused,
+    pub left: &'static [&'static str],
 }
 
-pub(crate) static CLEARED: [Cleared; 6] = [
-    Cleared {
-        name: "from the hundredth before the first one asked that has any",
+pub(crate) static CLEARED: [Tried; 6] = [
+    // From the hundredth before the first one asked that has any.
+    Tried::Clearing(&Cleared {
         first: 200,
-        had: &[7, 8, 9],
+        had: &[FILE_7, FILE_8, FILE_9],
         refused: None,
         left: &[],
-    },
-    Cleared {
-        name: "a refused clearing ends the work for its number alone",
+    }),
+    // A refused clearing ends the work for its number alone.
+    Tried::Clearing(&Cleared {
         first: 200,
-        had: &[7, 8, 9],
-        refused: Some(192),
-        left: &[8],
-    },
-    Cleared {
-        name: "a number before that hundredth stays",
+        had: &[FILE_7, FILE_8, FILE_9],
+        refused: Some((FsCall::DeleteMetadata, 192, IoKind::Other)),
+        left: &[FILE_8],
+    }),
+    // A number before that hundredth stays.
+    Tried::Clearing(&Cleared {
         first: 200,
-        had: &[3, 8],
+        had: &[FILE_3, FILE_8],
         refused: None,
-        left: &[3],
-    },
-    Cleared {
-        name: "numbers that aren't asked stay",
+        left: &[FILE_3],
+    }),
+    // Numbers that aren't asked stay.
+    Tried::Clearing(&Cleared {
         first: 200,
-        had: &[7, 9],
+        had: &[FILE_7, FILE_9],
         refused: None,
-        left: &[7, 9],
-    },
-    Cleared {
-        name: "the first file's own stay",
+        left: &[FILE_7, FILE_9],
+    }),
+    // The first file's own stay.
+    Tried::Clearing(&Cleared {
         first: 4,
-        had: &[1, 3, 4, 5],
+        had: &[FILE_1, FILE_3, FILE_4, FILE_5],
         refused: None,
-        left: &[4, 5],
-    },
-    Cleared {
-        name: "nothing stands before number 0",
+        left: &[FILE_4, FILE_5],
+    }),
+    // Nothing stands before number 0.
+    Tried::Clearing(&Cleared {
         first: 0,
-        had: &[0, 1],
+        had: &[FILE_0, FILE_1],
         refused: None,
-        left: &[0, 1],
-    },
+        left: &[FILE_0, FILE_1],
+    }),
 ];
 
 /// Free space of both folders in bytes, and the folder of a new file of 1024 bytes.
 pub(crate) struct Room {
-    pub name: &'static str,
     pub free: (u64, u64),
-    /// The number of the query for free space that fails.
-    pub refused: Option<u64>,
+    pub refused: Refused,
     pub place: usize,
 }
 
-pub(crate) static ROOM: [Room; 5] = [
-    Room {
-        name: "the first folder has room",
+pub(crate) static ROOM: [Tried; 5] = [
+    // The first folder has room.
+    Tried::Placing(&Room {
         free: (1024, 2048),
         refused: None,
         place: 0,
-    },
-    Room {
-        name: "the second one alone has room",
+    }),
+    // The second one alone has room.
+    Tried::Placing(&Room {
         free: (1023, 1024),
         refused: None,
         place: 1,
-    },
-    Room {
-        name: "neither has room",
+    }),
+    // Neither has room.
+    Tried::Placing(&Room {
         free: (0, 0),
         refused: None,
         place: 0,
-    },
-    Room {
-        name: "a refusal counts as too little",
+    }),
+    // A refusal counts as too little.
+    Tried::Placing(&Room {
         free: (2048, 2048),
-        refused: Some(1),
+        refused: Some((FsCall::FreeSpace, 1, IoKind::Other)),
         place: 1,
-    },
-    Room {
-        name: "a refusal of the second one too",
+    }),
+    // A refusal of the second one too.
+    Tried::Placing(&Room {
         free: (0, 2048),
-        refused: Some(2),
+        refused: Some((FsCall::FreeSpace, 2, IoKind::Other)),
         place: 0,
-    },
+    }),
 ];
 
 /// Existing reserved files, and those after an opening.
 pub(crate) struct Prefilled {
-    pub name: &'static str,
     pub stored: &'static [&'static str],
     pub append_files: usize,
     /// The limits of files for reuse, and of reserved files.
     pub limits: (usize, usize),
     pub target_size: usize,
-    /// A call that fails.
-    pub refused: Option<(FsCall, u64, IoKind)>,
+    pub refused: Refused,
     pub spare: Answer,
-    /// Paths with the lengths of their files; `None` if no file has the path.
-    pub after: &'static [(&'static str, Option<usize>)],
+    /// Files with their lengths, and paths that no file has.
+    pub after: &'static [(&'static str, usize)],
+    pub gone: &'static [&'static str],
 }
 
 /// The paths of the spare files, or a failure with `Io`.
@@ -130,99 +145,104 @@ pub(crate) enum Answer {
     Refused,
 }
 
-pub(crate) static PREFILLED: [Prefilled; 9] = [
-    Prefilled {
-        name: "a fresh folder",
+pub(crate) static PREFILLED: [Tried; 9] = [
+    // A fresh folder.
+    Tried::Prefilling(&Prefilled {
         stored: &[],
         append_files: 0,
         limits: (4, 4),
         target_size: 1024,
         refused: None,
         spare: Answer::Spare(&[RESERVED_1, RESERVED_2, RESERVED_3, RESERVED_4]),
-        after: &[
-            (RESERVED_1, Some(1024)),
-            (RESERVED_4, Some(1024)),
-            ("data/0000000000000005.raftlog.reserved", None),
-        ],
-    },
-    Prefilled {
-        name: "Append files lower the number",
+        after: &[(RESERVED_1, 1024), (RESERVED_4, 1024)],
+        gone: &["data/0000000000000005.raftlog.reserved"],
+    }),
+    // Append files lower the number.
+    Tried::Prefilling(&Prefilled {
         stored: &[],
         append_files: 3,
         limits: (4, 4),
         target_size: 1024,
         refused: None,
         spare: Answer::Spare(&[RESERVED_1]),
-        after: &[(RESERVED_1, Some(1024)), (RESERVED_2, None)],
-    },
-    Prefilled {
-        name: "without prefill all are deleted",
+        after: &[(RESERVED_1, 1024)],
+        gone: &[RESERVED_2],
+    }),
+    // Without prefill all are deleted.
+    Tried::Prefilling(&Prefilled {
         stored: &[RESERVED_1, RESERVED_2],
         append_files: 0,
         limits: (4, 0),
         target_size: 1024,
         refused: None,
         spare: Answer::Spare(&[]),
-        after: &[(RESERVED_1, None), (RESERVED_2, None)],
-    },
-    Prefilled {
-        name: "those found stay as they are, and their numbers go on",
+        after: &[],
+        gone: &[RESERVED_1, RESERVED_2],
+    }),
+    // Those found stay as they are, and their numbers go on.
+    Tried::Prefilling(&Prefilled {
         stored: &[RESERVED_2],
         append_files: 0,
         limits: (4, 2),
         target_size: 1024,
         refused: None,
         spare: Answer::Spare(&[RESERVED_2, RESERVED_3]),
-        after: &[(RESERVED_2, Some(0)), (RESERVED_3, Some(1024))],
-    },
-    Prefilled {
-        name: "surplus goes from the back",
+        after: &[(RESERVED_2, 0), (RESERVED_3, 1024)],
+        gone: &[],
+    }),
+    // Surplus goes from the back.
+    Tried::Prefilling(&Prefilled {
         stored: &[RESERVED_1, RESERVED_2, RESERVED_3],
         append_files: 0,
         limits: (4, 2),
         target_size: 1024,
         refused: None,
         spare: Answer::Spare(&[RESERVED_1, RESERVED_2]),
-        after: &[(RESERVED_2, Some(0)), (RESERVED_3, None)],
-    },
-    Prefilled {
-        name: "a refused deletion is passed over",
+        after: &[(RESERVED_2, 0)],
+        gone: &[RESERVED_3],
+    }),
+    // A refused deletion is passed over.
+    Tried::Prefilling(&Prefilled {
         stored: &[RESERVED_1],
         append_files: 0,
         limits: (0, 0),
         target_size: 1024,
         refused: Some((FsCall::Delete, 1, IoKind::Other)),
         spare: Answer::Spare(&[]),
-        after: &[(RESERVED_1, Some(0))],
-    },
-    Prefilled {
-        name: "where storage is full none is kept",
+        after: &[(RESERVED_1, 0)],
+        gone: &[],
+    }),
+    // Where storage is full none is kept.
+    Tried::Prefilling(&Prefilled {
         stored: &[RESERVED_1],
         append_files: 0,
         limits: (4, 4),
         target_size: 1024,
         refused: Some((FsCall::Write, 2, IoKind::NoSpace)),
         spare: Answer::Spare(&[]),
-        after: &[(RESERVED_1, None), (RESERVED_2, None), (RESERVED_3, None)],
-    },
-    Prefilled {
-        name: "another refused write leaves its file as it is",
+        after: &[],
+        gone: &[RESERVED_1, RESERVED_2, RESERVED_3],
+    }),
+    // Another refused write leaves its file as it is.
+    Tried::Prefilling(&Prefilled {
         stored: &[],
         append_files: 0,
         limits: (2, 2),
         target_size: 1024,
         refused: Some((FsCall::Write, 1, IoKind::Other)),
         spare: Answer::Spare(&[RESERVED_1, RESERVED_2]),
-        after: &[(RESERVED_1, Some(512)), (RESERVED_2, Some(1024))],
-    },
-    Prefilled {
-        name: "a refused creation refuses",
+        after: &[(RESERVED_1, 512), (RESERVED_2, 1024)],
+        gone: &[],
+    }),
+    // A refused creation refuses.
+    Tried::Prefilling(&Prefilled {
         stored: &[],
         append_files: 0,
         limits: (2, 2),
         target_size: 1024,
         refused: Some((FsCall::Create, 2, IoKind::NoSpace)),
         spare: Answer::Refused,
-        after: &[(RESERVED_1, Some(1024)), (RESERVED_2, None)],
-    },
+        after: &[(RESERVED_1, 1024)],
+        gone: &[RESERVED_2],
+    }),
 ];

@@ -2,6 +2,11 @@
 
 use std::process::Abort;
 
+/// Asserts the row at this place of a table.
+pub(crate) fn assert_place<R: Abort>(rt: &R, held: bool, table: usize, row: usize) {
+    assert!(rt; held, "table {table}, row {row}");
+}
+
 /// Asserts the row of this name.
 pub(crate) fn assert_row<R: Abort>(rt: &R, held: bool, name: &str) {
     assert!(rt; held, "{name}");

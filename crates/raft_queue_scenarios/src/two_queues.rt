@@ -1,11 +1,10 @@
-//! Both queues of a folder, opened in stages: what is read of each, and what is cut off their
-//! files.
+//! Both queues of a folder, opened in stages: the batches that are read of each, and the bytes that
+//! are cut off their files.
 
 use crate::failing::Failing;
-use crate::folders::{HEADER, begun, stand_alone, stores_all};
+use crate::folders::{Folders, HEADER, begun, stand_alone, stores_all};
 use crate::keys::Keys;
-use crate::told::assert_row;
-use crate::tried::{Tried, holds_in_memory};
+use crate::tried::Tried;
 use raft_builder::{Cut, DefaultMachineFactory, DualPipesBuilder};
 use raft_env::FileSystem;
 use raft_records::{Fault, FileId, Fresh, LogQueue};
@@ -38,14 +37,15 @@ pub(crate) enum Step {
     Cuts(&'static [Wanted]),
 }
 
-/// Files with their bytes before the opening, its stages, the last file of each queue or the code
-/// with which finishing fails, and the files afterwards with their lengths.
+/// The folders of the settings, files with their bytes before the opening, its stages, the first and
+/// the last file of each queue or the code with which finishing fails, and the files afterwards with
+/// their lengths.
 pub(crate) struct Case {
-    name: &'static str,
-    stored: &'static [FileParts],
-    steps: &'static [Step],
-    finished: Result<(u64, u64), u8>,
-    files: &'static [(&'static str, usize)],
+    pub folders: Folders,
+    pub stored: &'static [FileParts],
+    pub steps: &'static [Step],
+    pub finished: Ended,
+    pub files: &'static [(&'static str, usize)],
 }
 
 pub(crate) const APPEND_1: FileParts = ("data/0000000000000001.raftlog", &[HEADER, PUT_1]);
@@ -54,26 +54,29 @@ pub(crate) const APPEND_2: FileParts = ("data/0000000000000002.raftlog", &[HEADE
 
 pub(crate) const REWRITE_1: FileParts = ("data/0000000000000001.rewrite", &[HEADER, PUT_1, PUT_2]);
 
-static REFUSED: [Case; 3] = [
-    Case {
-        name: "no files",
+pub(crate) static REFUSED: [Tried; 3] = [
+    // No files.
+    Tried::Stages(&Case {
+        folders: None,
         stored: &[],
         steps: &[Step::Scan, Step::Cuts(&[])],
-        finished: Ok((1, 1)),
+        finished: Ok(((1, 1), (1, 1))),
         files: &[
             ("data/0000000000000001.raftlog", 69),
             ("data/0000000000000001.rewrite", 69),
         ],
-    },
-    Case {
-        name: "no scan",
+    }),
+    // No scan.
+    Tried::Stages(&Case {
+        folders: None,
         stored: &[APPEND_1],
         steps: &[Step::ReadRefused(LogQueue::Append, 15), Step::Cuts(&[])],
         finished: Err(15),
         files: &[("data/0000000000000001.raftlog", 97)],
-    },
-    Case {
-        name: "a file in the folder's place",
+    }),
+    // A file in the folder's place.
+    Tried::Stages(&Case {
+        folders: None,
         stored: &[("data", &[PUT_1])],
         steps: &[
             Step::ScanRefused(1),
@@ -81,12 +84,13 @@ static REFUSED: [Case; 3] = [
         ],
         finished: Err(15),
         files: &[("data", 28)],
-    },
+    }),
 ];
 
-static THREE_FILES: [Case; 2] = [
-    Case {
-        name: "one queue is unread",
+pub(crate) static THREE_FILES: [Tried; 2] = [
+    // One queue is unread.
+    Tried::Stages(&Case {
+        folders: None,
         stored: &[APPEND_1, APPEND_2, REWRITE_1],
         steps: &[Step::Scan, Step::Read(LogQueue::Append, 2), Step::Cuts(&[])],
         finished: Err(15),
@@ -95,87 +99,82 @@ static THREE_FILES: [Case; 2] = [
             ("data/0000000000000002.raftlog", 98),
             ("data/0000000000000001.rewrite", 125),
         ],
-    },
-    Case {
-        name: "broken ends of both queues",
+    }),
+    // Broken ends of both queues.
+    Tried::Stages(&Case {
+        folders: None,
         stored: &[APPEND_1, APPEND_2, REWRITE_1],
         steps: &[
             Step::Scan,
             Step::ReadBoth(2, 1),
             Step::Cuts(&[(LogQueue::Rewrite, 1, 97), (LogQueue::Append, 2, 97)]),
         ],
-        finished: Ok((2, 1)),
+        finished: Ok(((1, 2), (1, 1))),
         files: &[
             ("data/0000000000000001.raftlog", 97),
             ("data/0000000000000002.raftlog", 97),
             ("data/0000000000000001.rewrite", 97),
         ],
-    },
+    }),
 ];
 
-static EMPTY_FILE: [Case; 1] = [Case {
-    name: "a file of no bytes is begun anew",
-    stored: &[APPEND_1, ("data/0000000000000002.raftlog", &[])],
-    steps: &[
-        Step::Scan,
-        Step::ReadBoth(1, 0),
-        Step::Cuts(&[(LogQueue::Append, 2, 0)]),
-    ],
-    finished: Ok((2, 1)),
-    files: &[
-        ("data/0000000000000001.raftlog", 97),
-        ("data/0000000000000002.raftlog", 61),
-        ("data/0000000000000001.rewrite", 69),
-    ],
-}];
+pub(crate) static EMPTY_FILE: [Tried; 1] = [ // A file of no bytes is begun anew.
+    Tried::Stages(&Case {
+        folders: None,
+        stored: &[APPEND_1, ("data/0000000000000002.raftlog", &[])],
+        steps: &[
+            Step::Scan,
+            Step::ReadBoth(1, 0),
+            Step::Cuts(&[(LogQueue::Append, 2, 0)]),
+        ],
+        finished: Ok(((1, 2), (1, 1))),
+        files: &[
+            ("data/0000000000000001.raftlog", 97),
+            ("data/0000000000000002.raftlog", 61),
+            ("data/0000000000000001.rewrite", 69),
+        ],
+    }),
+];
 
-static HEADER_ALONE: [Case; 1] = [Case {
-    name: "a queue begins at its first file, also where that has no record",
-    stored: &[
-        ("data/0000000000000001.raftlog", &[HEADER]),
-        ("data/0000000000000002.raftlog", &[HEADER, PUT_2]),
-    ],
-    steps: &[Step::Scan, Step::ReadBoth(1, 0), Step::Cuts(&[])],
-    finished: Ok((2, 1)),
-    files: &[
-        ("data/0000000000000001.raftlog", 69),
-        ("data/0000000000000002.raftlog", 97),
-        ("data/0000000000000001.rewrite", 69),
-    ],
-}];
+pub(crate) static HEADER_ALONE: [Tried; 1] = [ // A queue begins at its first file, also where that has no record.
+    Tried::Stages(&Case {
+        folders: None,
+        stored: &[
+            ("data/0000000000000001.raftlog", &[HEADER]),
+            ("data/0000000000000002.raftlog", &[HEADER, PUT_2]),
+        ],
+        steps: &[Step::Scan, Step::ReadBoth(1, 0), Step::Cuts(&[])],
+        finished: Ok(((1, 2), (1, 1))),
+        files: &[
+            ("data/0000000000000001.raftlog", 69),
+            ("data/0000000000000002.raftlog", 97),
+            ("data/0000000000000001.rewrite", 69),
+        ],
+    }),
+];
 
-static BROKEN_FILE: [Case; 1] = [Case {
-    name: "a file before the last one is broken",
-    stored: &[
-        ("data/0000000000000001.raftlog", &[HEADER, PUT_1, b"\x07"]),
-        APPEND_2,
-        REWRITE_1,
-    ],
-    steps: &[
-        Step::Scan,
-        Step::ReadRefused(LogQueue::Append, 2),
-        Step::Read(LogQueue::Rewrite, 1),
-        Step::Cuts(&[]),
-    ],
-    finished: Err(15),
-    files: &[
-        ("data/0000000000000001.raftlog", 98),
-        ("data/0000000000000002.raftlog", 98),
-        ("data/0000000000000001.rewrite", 125),
-    ],
-}];
-
-// A function is checked with the whole of each table that it names, and the time grows with the
-// square of its length.
-fn cases() -> [&'static [Case]; 5] {
-    [
-        &REFUSED,
-        &THREE_FILES,
-        &EMPTY_FILE,
-        &HEADER_ALONE,
-        &BROKEN_FILE,
-    ]
-}
+pub(crate) static BROKEN_FILE: [Tried; 1] = [ // A file before the last one is broken.
+    Tried::Stages(&Case {
+        folders: None,
+        stored: &[
+            ("data/0000000000000001.raftlog", &[HEADER, PUT_1, b"\x07"]),
+            APPEND_2,
+            REWRITE_1,
+        ],
+        steps: &[
+            Step::Scan,
+            Step::ReadRefused(LogQueue::Append, 2),
+            Step::Read(LogQueue::Rewrite, 1),
+            Step::Cuts(&[]),
+        ],
+        finished: Err(15),
+        files: &[
+            ("data/0000000000000001.raftlog", 98),
+            ("data/0000000000000002.raftlog", 98),
+            ("data/0000000000000001.rewrite", 125),
+        ],
+    }),
+];
 
 // The number of batches read of the queue, or the code with which that fails. Each batch puts one
 // key.
@@ -280,23 +279,14 @@ pub(crate) fn code_of(ended: Ended) -> Option<u8> {
     }
 }
 
-fn is_end(ended: Ended, wanted: &Result<(u64, u64), u8>) -> bool {
-    match (ended, wanted) {
-        (Ok((append, rewrite)), Ok((last_append, last_rewrite))) => {
-            append == (1, *last_append) && rewrite == (1, *last_rewrite)
-        }
-        (Err(code), Err(wanted)) => code == *wanted,
-        _ => false,
-    }
-}
-
 /// How an opening ends, and the files afterwards; `None` unless its steps end as they say.
 pub(crate) fn staged<F: FileSystem + Drop>(
     alloc: Global,
+    folders: Folders,
     fs: F,
     steps: &[Step],
 ) -> Option<(Ended, F)> {
-    match begun(alloc, fs) {
+    match begun(alloc, folders, fs) {
         Ok(mut builder) => {
             let held = all_hold(alloc, &mut builder, steps);
             let done = finished(builder);
@@ -311,20 +301,10 @@ pub(crate) fn is_as_said<F: Failing>(alloc: Global, case: &Case) -> bool {
     if !stores_all(&mut fs, case.stored) {
         return false;
     }
-    match staged(alloc, fs, case.steps) {
+    match staged(alloc, case.folders, fs, case.steps) {
         Some((ended, mut files)) => {
-            is_end(ended, &case.finished) && stand_alone(&mut files, case.files)
+            ended == case.finished && stand_alone(&mut files, case.folders, case.files)
         }
         None => false,
-    }
-}
-
-#[test]
-fn both_queues_are_opened_in_stages(rt: HostRuntime) {
-    for cases in &cases() {
-        for case in *cases {
-            let held = holds_in_memory(rt.alloc(), &Tried::Stages(case));
-            assert_row(&rt, held, case.name);
-        }
     }
 }

@@ -2,7 +2,6 @@
 
 use raft_records::Fault;
 use std::alloc::Global;
-use std::test::Fail;
 
 /// A row of a table, and what the rows of the table share.
 pub trait Row {
@@ -24,20 +23,4 @@ pub fn first_wrong<T: Row>(
         }
     }
     Ok(None)
-}
-
-/// Whether each row comes to what it says; else the place of the first that doesn't is told.
-pub fn rows_hold<T: Row>(
-    alloc: Global,
-    state: &mut T::State,
-    rows: &'static [T],
-) -> Result<(), Fail> {
-    for (place, row) in rows.iter().enumerate() {
-        match row.holds(alloc, state) {
-            Ok(true) => {}
-            Ok(false) => return Err(Fail::new(format_args!("row {place}"))),
-            Err(fault) => return Err(Fail::new(format_args!("row {place}: {fault:?}"))),
-        }
-    }
-    Ok(())
 }

@@ -42,11 +42,11 @@ use std::alloc::Global;
 /// each other. Only a failed first opening requires that no folder has the path of a log file
 /// (`HaveNoLogPath`).
 ///
-/// The damage is detectable in two cases. First, if no engine failed, nothing decodes that a last
-/// log file held when it was renamed, and the choices leave each file whole, as at the crash or as
-/// at its last sync. Second, for any failures and torn files, if the last log files were never
-/// renamed, each record was brought by its own call, and the files are read as at a moment since
-/// their last sync.
+/// The damage is detectable in two cases. In the first no engine failed, and no record decodes that
+/// a last log file held when it was renamed; the choices leave each file whole, as at the crash or
+/// as at its last sync. In the second there may be any failures and torn files. Then the last log
+/// files were never renamed, each record was brought by its own call, and the files are read as at
+/// a moment since their last sync.
 pub fn trial(
     alloc: Global,
     config: Config,

@@ -66,7 +66,7 @@ pub(crate) fn batch_of(alloc: Global, ask: &Ask) -> Result<LogBatch, Fault> {
 }
 
 /// The fault in a reply.
-fn fault_of(reply: &Reply) -> Option<&Fault> {
+pub(crate) fn fault_of(reply: &Reply) -> Option<&Fault> {
     match reply {
         Reply::Size(size) => size.as_ref().err(),
         Reply::Done(done) => done.as_ref().err(),

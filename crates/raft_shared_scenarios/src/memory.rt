@@ -2,10 +2,10 @@
 //! request is refused (`tools/fail-alloc`, `rt try --test --fail-alloc N`), a call that fails has
 //! recorded nothing, and can be made again.
 
-use crate::asked::Ask;
+use crate::asked::{Ask, fault_of};
 use crate::seated::{Faulty, MEMORY, Seated};
 use raft_log_engine::{Fault, MemoryFileSystem};
-use raft_shared::{Receipt, Reply, Seat};
+use raft_shared::{Receipt, Seat};
 use std::alloc::Global;
 use std::test::Fail;
 
@@ -26,21 +26,12 @@ enum Made {
     Wrong,
 }
 
-fn is_refused(reply: &Reply) -> bool {
-    match reply {
-        Reply::Size(size) => size.is_err(),
-        Reply::Done(done) => done.is_err(),
-        Reply::Value(value) => value.is_err(),
-        Reply::Index(_) => false,
-    }
-}
-
 fn made_of(answer: Result<Receipt, Fault>, number: usize) -> Made {
     match &answer {
         Ok(receipt) => {
             if receipt.number != number {
                 Made::Wrong
-            } else if is_refused(&receipt.reply) {
+            } else if fault_of(&receipt.reply).is_some() {
                 Made::Refused
             } else {
                 Made::Done

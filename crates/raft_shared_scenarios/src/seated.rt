@@ -2,7 +2,7 @@
 
 use crate::asked::{Ask, batch_of, put_of};
 use raft_log_engine::{Config, Engine, Fault, FileSystem, Fresh, FsCall, IoKind, MemoryFileSystem};
-use raft_shared::{Finished, Receipt, Recorded, Seat, Shared, Unfinished};
+use raft_shared::{Finished, Receipt, Recorded, Reply, Seat, Shared, Unfinished};
 use std::alloc::Global;
 use std::mem;
 
@@ -167,6 +167,37 @@ fn write_once<F: FileSystem>(
     shared.write_once(seat, &mut batch, pairs, true)
 }
 
+// Whether a reply has the value that a look-up found. The second one may have no memory.
+fn is_found(reply: &Reply, found: &Result<Option<Vec<u8>>, Fault>) -> bool {
+    match (reply, found) {
+        (Reply::Value(Ok(Some(value))), Ok(Some(found))) => value.as_slice() == found.as_slice(),
+        (Reply::Value(Ok(None)), Ok(None)) => true,
+        (Reply::Value(Err(Fault::Memory)), _) => true,
+        (Reply::Value(Err(fault)), Err(other)) => fault.code() == other.code(),
+        _ => false,
+    }
+}
+
+// Looks a key up without a record and as a call of the history, with one result. If there is no
+// memory for the first look-up, nothing was recorded.
+fn get<F: FileSystem>(
+    shared: &mut Shared<F>,
+    seat: &mut Seat,
+    group: u64,
+    key: &[u8],
+) -> Result<Receipt, Fault> {
+    let found = shared.look_up(group, key);
+    if matches!(&found, Err(Fault::Memory)) {
+        return Err(Fault::Memory);
+    }
+    let receipt = shared.get(seat, group, key)?;
+    if is_found(&receipt.reply, &found) {
+        Ok(receipt)
+    } else {
+        Err(Fault::Layer)
+    }
+}
+
 fn ask_by<F: FileSystem>(
     alloc: Global,
     shared: &mut Shared<F>,
@@ -176,7 +207,7 @@ fn ask_by<F: FileSystem>(
     match ask {
         Ask::Put(_, _, _) | Ask::Entries(_) => write(alloc, shared, seat, ask),
         Ask::PutOnce(_, pairs) => write_once(alloc, shared, seat, ask, pairs),
-        Ask::Get(group, key) => shared.get(seat, *group, key),
+        Ask::Get(group, key) => get(shared, seat, *group, key),
         Ask::First(group) => shared.first_index(seat, *group),
         Ask::Last(group) => shared.last_index(seat, *group),
         Ask::Sync => shared.sync(seat),

@@ -1,5 +1,6 @@
 //! What a listener hears of an engine's calls, and the files that it keeps from purges.
 
+use crate::told::tell;
 use raft_base::{FileBlockHandle, FileId, FileSeq, LogQueue};
 use raft_env::{FileSystem, IoKind};
 use raft_listeners::{EventListener, FileKeeper, Listeners};
@@ -465,23 +466,23 @@ fn wrong_row<F: Faulty>(
     alloc: Global,
     held: &mut Held<F>,
     heard: &Arc<AtomicU64>,
-) -> Option<usize> {
+) -> Option<(&'static str, usize)> {
     for (place, row) in rows().iter().enumerate() {
         if !is_heard(alloc, held, heard, row) {
-            return Some(place);
+            return Some(("row", place));
         }
     }
     None
 }
 
-fn wrong_held<F: Faulty>(alloc: Global, held: &mut Held<F>) -> Option<usize> {
+fn wrong_held<F: Faulty>(alloc: Global, held: &mut Held<F>) -> Option<(&'static str, usize)> {
     match Arc::new(alloc, AtomicU64::new(0)) {
         Ok(heard) => wrong_row(alloc, held, &heard),
-        Err(_error) => Some(0),
+        Err(_error) => Some(("memory", 0)),
     }
 }
 
-fn wrong_call<F: Faulty>(alloc: Global, files: F) -> Option<usize> {
+fn wrong_call<F: Faulty>(alloc: Global, files: F) -> Option<(&'static str, usize)> {
     let mut held = Held::Files(files);
     let wrong = wrong_held(alloc, &mut held);
     held.into_files();
@@ -490,8 +491,5 @@ fn wrong_call<F: Faulty>(alloc: Global, files: F) -> Option<usize> {
 
 #[test]
 fn a_listener_hears_each_call_in_order(rt: HostRuntime) -> Result<(), Fail> {
-    match wrong_call(rt.alloc(), MemoryFileSystem::new(rt.alloc())) {
-        None => Ok(()),
-        Some(place) => Err(Fail::new(format_args!("row {place}"))),
-    }
+    tell(wrong_call(rt.alloc(), MemoryFileSystem::new(rt.alloc())))
 }

@@ -17,4 +17,6 @@ mod refusals;
 #[cfg(test)]
 mod stops;
 #[cfg(test)]
+mod told;
+#[cfg(test)]
 mod trials;

@@ -3,6 +3,7 @@
 
 use crate::bench::{Bench, Work, work_at};
 use crate::lists::{List, all_lists};
+use crate::told::tell;
 use raft_memory::MemoryFileSystem;
 use raft_test_rows::{Failing, Faulty, Left};
 use std::alloc::{AllocError, Global};
@@ -74,16 +75,16 @@ fn stops_rightly<F: Faulty>(alloc: Global, bench: &mut Bench<F>, list: &List) ->
     }
 }
 
-fn wrong_list<F: Faulty>(alloc: Global, bench: &mut Bench<F>) -> Option<&'static str> {
-    for list in all_lists() {
+fn wrong_list<F: Faulty>(alloc: Global, bench: &mut Bench<F>) -> Option<(&'static str, usize)> {
+    for (place, list) in all_lists().iter().enumerate() {
         if list.kept > 0 && !stops_rightly(alloc, bench, list) {
-            return Some(list.name);
+            return Some((list.name, place));
         }
     }
     None
 }
 
-fn wrong_stop<F: Faulty>(alloc: Global, files: F) -> Option<&'static str> {
+fn wrong_stop<F: Faulty>(alloc: Global, files: F) -> Option<(&'static str, usize)> {
     let mut bench = Bench::new(alloc, files);
     let wrong = wrong_list(alloc, &mut bench);
     bench.end();
@@ -92,8 +93,5 @@ fn wrong_stop<F: Faulty>(alloc: Global, files: F) -> Option<&'static str> {
 
 #[test]
 fn recycling_may_stop_at_each_change(rt: HostRuntime) -> Result<(), Fail> {
-    match wrong_stop(rt.alloc(), MemoryFileSystem::new(rt.alloc())) {
-        None => Ok(()),
-        Some(name) => Err(Fail::new(format_args!("{name}"))),
-    }
+    tell(wrong_stop(rt.alloc(), MemoryFileSystem::new(rt.alloc())))
 }

@@ -1,5 +1,6 @@
 //! Trials: operations, a crash and an opening in one call.
 
+use crate::told::tell;
 use raft_memory::Choice;
 use raft_records::Fault;
 use raft_test_rows::{
@@ -349,10 +350,10 @@ fn is_done(alloc: Global, case: &Case) -> bool {
     }
 }
 
-fn wrong_case(alloc: Global) -> Option<usize> {
+fn wrong_case(alloc: Global) -> Option<(&'static str, usize)> {
     for (place, case) in all_cases().iter().enumerate() {
         if !is_done(alloc, case) {
-            return Some(place);
+            return Some(("row", place));
         }
     }
     None
@@ -360,8 +361,5 @@ fn wrong_case(alloc: Global) -> Option<usize> {
 
 #[test]
 fn trial_really_crashes(rt: HostRuntime) -> Result<(), Fail> {
-    match wrong_case(rt.alloc()) {
-        None => Ok(()),
-        Some(place) => Err(Fail::new(format_args!("row {place}"))),
-    }
+    tell(wrong_case(rt.alloc()))
 }

@@ -1,11 +1,11 @@
 //! A log in a test: files in memory, or an engine over them.
 
 use crate::plans::{Left, choices_of};
-use crate::states::{MAX_FILES, State, settings_in, state_of};
+use crate::states::{MAX_FILES, State, state_of};
 use raft_env::{FileSystem, IoKind};
 use raft_memory::{FsCall, MemoryFileSystem};
 use raft_records::Fault;
-use raft_script::{Config, Engine, RecoveryMode, Refused};
+use raft_script::{Config, Engine, Refused};
 use std::alloc::Global;
 use std::mem;
 
@@ -104,13 +104,6 @@ fn image_state<F: FileSystem>(engine: &mut Engine<F>) -> Option<State> {
     }
 }
 
-fn is_state(found: Option<State>, wanted: State) -> bool {
-    match found {
-        Some(state) => state == wanted,
-        None => false,
-    }
-}
-
 impl<F: Faulty> Held<F> {
     /// Returns the files. An engine gives them up.
     pub fn into_files(self) -> Option<F> {
@@ -182,18 +175,6 @@ impl<F: Faulty> Held<F> {
         }
     }
 
-    /// Opens the files with the tests' settings in this mode. Returns whether there was memory for
-    /// the settings.
-    pub fn open(&mut self, alloc: Global, mode: RecoveryMode) -> bool {
-        match settings_in(alloc, mode) {
-            Ok(config) => {
-                self.open_with(alloc, config);
-                true
-            }
-            Err(_fault) => false,
-        }
-    }
-
     fn close_engine(&mut self, engine: Engine<F>) {
         match engine.close() {
             Ok(files) => self.hold(Held::Files(files)),
@@ -247,28 +228,6 @@ impl<F: Faulty> Held<F> {
         match self {
             Held::Refused(refused) => Some(&refused.fault),
             _ => None,
-        }
-    }
-
-    /// Whether the last opening gave this state, or failed with this code.
-    pub fn has_come_to(&mut self, wanted: &Result<State, u8>) -> bool {
-        match self {
-            Held::Engine(engine) => match wanted {
-                Ok(state) => is_state(image_state(engine), *state),
-                Err(_) => false,
-            },
-            Held::Refused(refused) => match wanted {
-                Ok(_) => false,
-                Err(code) => refused.fault.code() == *code,
-            },
-            _ => false,
-        }
-    }
-
-    pub fn crash(&mut self, alloc: Global, left: &Left) -> bool {
-        match self.files() {
-            Some(files) => files.crash_to(alloc, left).is_ok(),
-            None => false,
         }
     }
 

@@ -18,5 +18,5 @@ pub use raft_script::{
 pub use runs::{CALLS, Ran, is_refusal, run_held};
 pub use states::{
     EMPTY, MAX_FILES, Sequence, State, after, are_new, count_below, first_refused, is_allowed,
-    is_done, plans_in, settings, settings_in, state_of, value_of,
+    is_done, plans_in, settings, state_of, value_of,
 };

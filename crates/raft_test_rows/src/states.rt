@@ -1,9 +1,9 @@
 //! Operations on four keys and eight entries, and the state of these: derived from the operations
 //! only, or read from an image.
 
-use crate::plans::{Change, Plan};
+use crate::plans::{Change, Plan, fault_of};
 use raft_records::{Fresh, ReadableSize};
-use raft_script::{Act, Config, Image, Op, Outcome, RecoveryMode};
+use raft_script::{Act, Config, Image, Op, Outcome};
 use std::alloc::{AllocError, Global};
 
 /// The first byte of each key's value and of each entry's word, 0 for none. `a` and `b` are keys
@@ -251,18 +251,7 @@ pub fn state_of(image: &Image) -> State {
 
 /// Whether the operation returned no fault.
 pub fn is_done(outcome: &Outcome) -> bool {
-    match outcome {
-        Outcome::Size(answer) => answer.is_ok(),
-        Outcome::Sizes(answer) => answer.is_ok(),
-        Outcome::Done(answer) => answer.is_ok(),
-        Outcome::Value(answer) => answer.is_ok(),
-        Outcome::Count(answer) => answer.is_ok(),
-        Outcome::Entry(answer) => answer.is_ok(),
-        Outcome::Index(_) => true,
-        Outcome::Groups(answer) => answer.is_ok(),
-        Outcome::Dropped(answer) => answer.is_ok(),
-        Outcome::ToCompact(answer) => answer.is_ok(),
-    }
+    fault_of(outcome).is_none()
 }
 
 /// The index of the first operation that failed.
@@ -338,13 +327,6 @@ pub fn settings(alloc: Global) -> Result<Config, AllocError> {
     config.dir.push_str("raft")?;
     config.target_file_size = ReadableSize::kb(1);
     config.purge_threshold = ReadableSize::kb(1);
-    Ok(config)
-}
-
-/// The same, in this mode.
-pub fn settings_in(alloc: Global, mode: RecoveryMode) -> Result<Config, AllocError> {
-    let mut config = settings(alloc)?;
-    config.recovery_mode = mode;
     Ok(config)
 }
 

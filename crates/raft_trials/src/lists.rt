@@ -6,6 +6,7 @@ use raft_test_rows::{
     Change, Config, Image, Left, Op, Outcome, Plan, Sequence, op_of, ops_of, plans_in, settings,
 };
 use std::alloc::{AllocError, Global};
+use std::mem;
 
 #[derive(Drop)]
 pub(crate) struct List {
@@ -74,9 +75,14 @@ pub(crate) fn numbered(alloc: Global, op: Op, pairs: &[(u64, u64)]) -> Result<Op
     if pairs.is_empty() {
         return Ok(op);
     }
-    match op {
-        Op::Write(acts, sync) => Ok(Op::WriteOnce(acts, pairs.to_vec(alloc)?, sync)),
-        other => Ok(other),
+    let mut op = op;
+    let taken = match &mut op {
+        Op::Write(acts, sync) => Some((mem::replace(acts, Vec::new(alloc)), *sync)),
+        _ => None,
+    };
+    match taken {
+        Some((acts, sync)) => Ok(Op::WriteOnce(acts, pairs.to_vec(alloc)?, sync)),
+        None => Ok(op),
     }
 }
 

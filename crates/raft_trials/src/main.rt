@@ -50,18 +50,32 @@ fn try_word(alloc: Global, word: &str, tally: &mut Tally) -> Result<bool, Fault>
     }
 }
 
+// Prints the counts of a word's trials, and the first wrong one.
+fn tell(rt: HostRuntime, word: &str, tally: &Tally) -> Result<(), anyhow::Error> {
+    println!(rt; "{word}: {tally}")?;
+    if let Some(first) = &tally.first_wrong {
+        println!(rt; "{first}")?;
+    }
+    Ok(())
+}
+
+// Whether all trials that a word names are right; `None` if it names none.
+fn are_right(rt: HostRuntime, word: &str) -> Result<Option<bool>, anyhow::Error> {
+    let mut tally = Tally::new();
+    if !try_word(rt.alloc(), word, &mut tally)? {
+        println!(rt; "{word}: no trials")?;
+        return Ok(None);
+    }
+    tell(rt, word, &tally)?;
+    Ok(Some(tally.first_wrong.is_none()))
+}
+
 fn main(rt: HostRuntime) -> Result<ExitCode, anyhow::Error> {
     let mut all_right = true;
     for word in env::args(&rt)?.skip(1) {
-        let mut tally = Tally::new();
-        if !try_word(rt.alloc(), word.as_str(), &mut tally)? {
-            println!(rt; "{word}: no trials")?;
-            return Ok(ExitCode::from(2));
-        }
-        println!(rt; "{word}: {tally}")?;
-        if let Some(first) = &tally.first_wrong {
-            println!(rt; "{first}")?;
-            all_right = false;
+        match are_right(rt, word.as_str())? {
+            Some(right) => all_right = right && all_right,
+            None => return Ok(ExitCode::from(2)),
         }
     }
     Ok(if all_right {

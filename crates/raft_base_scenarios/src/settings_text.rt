@@ -1,6 +1,6 @@
 //! Texts of settings: how they are read, how settings are written, and which texts are refused.
 
-use crate::told::assert_rows;
+use crate::told::assert_tables;
 use raft_config::Config;
 use raft_records::{Fault, Fresh, ReadableSize};
 use raft_rows::Row;
@@ -38,48 +38,44 @@ spill-dir = \"\"
 target-file-size = \"1023B\"
 ";
 
-/// A text, and the text that is written for the settings read from it.
-struct Read(&'static str, &'static str);
+enum Case {
+    /// A text, and the text that is written for the settings read from it.
+    Written(&'static str, &'static str),
+    /// A text that is refused, and why.
+    Refused(&'static str, &'static str),
+    /// A text read over the settings of another one, and the resulting read block size and number of
+    /// threads.
+    Laid(&'static str, &'static str, u64, usize),
+    /// Settings from text, and the values that are used, or why the settings are refused.
+    Sanitized(&'static str, Result<Used, &'static str>),
+}
 
-static TEXTS: [Read; 6] = [
-    Read("", DEFAULTS),
-    Read(DEFAULTS, DEFAULTS),
-    Read(ALL_SET, ALL_SET),
+use Case::{Laid, Refused, Sanitized, Written};
+
+/// The values used: the read block size, the number of threads, the Rewrite queue's threshold, the
+/// limit of files made ahead, and the numbers of files kept for reuse and made ahead.
+struct Used(u64, usize, u64, Option<u64>, usize, usize);
+
+static TEXTS: [Case; 6] = [
+    Written("", DEFAULTS),
+    Written(DEFAULTS, DEFAULTS),
+    Written(ALL_SET, ALL_SET),
     // Unknown keys, comments, and sizes in other units than the written ones.
-    Read(
+    Written(
         "batch-compression-threshold = \"8KB\"\ncompression-level = 0.5\n# a comment\n[other]\ndir = 1\n",
         DEFAULTS,
     ),
-    Read(
+    Written(
         "recovery-mode = \"tolerate-tail-corruption\"\ntarget-file-size = 134217728\npurge-threshold = \"10240MB\"\n",
         DEFAULTS,
     ),
-    Read(
+    Written(
         "purge-threshold = \"10737418240\"\nrecovery-read-block-size = \"16384B\"\n",
         DEFAULTS,
     ),
 ];
 
-impl Row for Read {
-    type State = ();
-
-    fn holds(&self, alloc: Global, _: &mut ()) -> Result<bool, Fault> {
-        let config = read(alloc, self.0)?;
-        let written = write(alloc, &config)?;
-        let back = read(alloc, written.as_str())?;
-        Ok(written.as_str() == self.1 && back == config)
-    }
-}
-
-#[test]
-fn texts_are_read_and_written(rt: HostRuntime) {
-    assert_rows(&rt, rt.alloc(), &mut (), &TEXTS);
-}
-
-/// A text that is refused, and why.
-struct Refused(&'static str, &'static str);
-
-static REFUSED: [Refused; 14] = [
+static REFUSED: [Case; 14] = [
     Refused("dir", "the settings are not valid TOML"),
     Refused(
         "dir = \"a\"\ndir = \"a\"\n",
@@ -108,27 +104,7 @@ static REFUSED: [Refused; 14] = [
     Refused("prefill-limit = \"\"", "prefill-limit"),
 ];
 
-impl Row for Refused {
-    type State = ();
-
-    fn holds(&self, alloc: Global, _: &mut ()) -> Result<bool, Fault> {
-        match read(alloc, self.0) {
-            Err(Fault::InvalidArgument(reason)) => Ok(reason == self.1),
-            _ => Ok(false),
-        }
-    }
-}
-
-#[test]
-fn texts_are_refused(rt: HostRuntime) {
-    assert_rows(&rt, rt.alloc(), &mut (), &REFUSED);
-}
-
-/// A text read over the settings of another one, and the resulting read block size and number of
-/// threads.
-struct Laid(&'static str, &'static str, u64, usize);
-
-static LAID: [Laid; 4] = [
+static LAID: [Case; 4] = [
     Laid("recovery-threads = 7", "", 16_384, 7),
     Laid("recovery-threads = 7", "recovery-threads = 9", 16_384, 9),
     Laid(
@@ -145,29 +121,7 @@ static LAID: [Laid; 4] = [
     ),
 ];
 
-impl Row for Laid {
-    type State = ();
-
-    fn holds(&self, alloc: Global, _: &mut ()) -> Result<bool, Fault> {
-        let below = read(alloc, self.0)?;
-        let config = with_text(alloc, &below, self.1)?;
-        Ok(config.recovery_read_block_size.0 == self.2 && config.recovery_threads == self.3)
-    }
-}
-
-#[test]
-fn texts_are_laid_over_settings(rt: HostRuntime) {
-    assert_rows(&rt, rt.alloc(), &mut (), &LAID);
-}
-
-/// Settings from text, and the values that are used, or why the settings are refused.
-struct Sanitized(&'static str, Result<Used, &'static str>);
-
-/// The values used: the read block size, the number of threads, the Rewrite queue's threshold, the
-/// limit of files made ahead, and the numbers of files kept for reuse and made ahead.
-struct Used(u64, usize, u64, Option<u64>, usize, usize);
-
-static SANITIZED: [Sanitized; 6] = [
+static SANITIZED: [Case; 10] = [
     Sanitized("", Ok(Used(16_384, 4, 1_073_741_824, None, 120, 0))),
     Sanitized(
         "recovery-read-block-size = 1\nrecovery-threads = 0\ntarget-file-size = \"5000MB\"\n\
@@ -188,7 +142,24 @@ static SANITIZED: [Sanitized; 6] = [
         Err("prefill-for-recycle needs enable-log-recycle"),
     ),
     Sanitized("dir = \"a\"\nspill-dir = \"a\"", Err("spill-dir is dir")),
+    Sanitized("spill-dir = \"\"", Err("spill-dir is dir")),
+    Sanitized(
+        "format-version = 1\nenable-log-recycle = false",
+        Ok(Used(16_384, 4, 1_073_741_824, None, 0, 0)),
+    ),
+    Sanitized(
+        "format-version = 1",
+        Err("enable-log-recycle needs format-version 2"),
+    ),
+    Sanitized(
+        "target-file-size = 0\nformat-version = 1",
+        Err("target-file-size is 0"),
+    ),
 ];
+
+fn tables() -> [&'static [Case]; 4] {
+    [&TEXTS, &REFUSED, &LAID, &SANITIZED]
+}
 
 fn is_sanitized(config: &mut Config, wanted: &Result<Used, &'static str>) -> bool {
     match (config.sanitize(), wanted) {
@@ -216,18 +187,44 @@ fn is_limit(given: Option<ReadableSize>, wanted: Option<u64>) -> bool {
     }
 }
 
-impl Row for Sanitized {
+// Whether the settings of a text are written as the other text, which is read as they are.
+fn is_read_back(alloc: Global, text: &str, wanted: &str) -> Result<bool, Fault> {
+    let config = read(alloc, text)?;
+    let written = write(alloc, &config)?;
+    let back = read(alloc, written.as_str())?;
+    Ok(written.as_str() == wanted && back == config)
+}
+
+fn is_laid(alloc: Global, below: &str, text: &str, wanted: (u64, usize)) -> Result<bool, Fault> {
+    let below = read(alloc, below)?;
+    let config = with_text(alloc, &below, text)?;
+    Ok((config.recovery_read_block_size.0, config.recovery_threads) == wanted)
+}
+
+impl Row for Case {
     type State = ();
 
     fn holds(&self, alloc: Global, _: &mut ()) -> Result<bool, Fault> {
-        let mut config = read(alloc, self.0)?;
-        Ok(is_sanitized(&mut config, &self.1))
+        match self {
+            Written(text, wanted) => is_read_back(alloc, text, wanted),
+            Refused(text, wanted) => match read(alloc, text) {
+                Err(Fault::InvalidArgument(reason)) => Ok(reason == *wanted),
+                _ => Ok(false),
+            },
+            Laid(below, text, block_size, threads) => {
+                is_laid(alloc, below, text, (*block_size, *threads))
+            }
+            Sanitized(text, wanted) => {
+                let mut config = read(alloc, text)?;
+                Ok(is_sanitized(&mut config, wanted))
+            }
+        }
     }
 }
 
 #[test]
-fn sanitized_settings(rt: HostRuntime) {
-    assert_rows(&rt, rt.alloc(), &mut (), &SANITIZED);
+fn texts_of_settings(rt: HostRuntime) {
+    assert_tables(&rt, rt.alloc(), &mut (), &tables());
 }
 
 fn is_written(alloc: Global, threads: usize, ratio: u64) -> bool {

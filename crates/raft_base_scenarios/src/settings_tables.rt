@@ -1,17 +1,26 @@
 //! Tables of settings, and what both readings make of them.
 
-use crate::documents::{Program, by_serde, by_table, document_of};
+use crate::settings_documents::{Program, by_serde, by_table, document_of};
+use crate::told::assert_tables;
 use raft_config::{Config, RecoveryMode};
 use raft_records::{Fault, ReadableSize, Version};
-use raft_rows::{Row, rows_hold};
+use raft_rows::Row;
 use raft_settings::write;
 use std::alloc::Global;
-use std::test::Fail;
 
-/// The lines of a table, and a whole line of the text that is then written for the settings.
-struct Accepted(&'static str, &'static str);
+enum Case {
+    /// The lines of a table, and a whole line of the text that is then written for the settings.
+    Accepted(&'static str, &'static str),
+    /// The lines of a table that both refuse, and why `raft_settings` does.
+    Refused(&'static str, &'static str),
+    /// A document of which only `serde` reads settings, why `raft_settings` refuses it, and a whole
+    /// line of the text that is then written for the settings.
+    Different(&'static str, &'static str, &'static str),
+}
 
-static ACCEPTED: [Accepted; 29] = [
+use Case::{Accepted, Different, Refused};
+
+static ACCEPTED: [Case; 29] = [
     Accepted("", "target-file-size = \"128MB\""),
     Accepted("", "recovery-mode = \"tolerate-corrupted-tail-records\""),
     Accepted("dir = \"a/b c\"", "dir = \"a/b c\""),
@@ -91,26 +100,7 @@ fn has_line(text: &str, line: &str) -> bool {
     false
 }
 
-impl Row for Accepted {
-    type State = ();
-
-    fn holds(&self, alloc: Global, _: &mut ()) -> Result<bool, Fault> {
-        let document = document_of(alloc, self.0)?;
-        let read = by_table(alloc, document.as_str())?;
-        let written = write(alloc, &read)?;
-        Ok(by_serde(alloc, document.as_str()) == Some(read) && has_line(written.as_str(), self.1))
-    }
-}
-
-#[test]
-fn both_read_the_same_settings(rt: HostRuntime) -> Result<(), Fail> {
-    rows_hold(rt.alloc(), &mut (), &ACCEPTED)
-}
-
-/// The lines of a table that both refuse, and why `raft_settings` does.
-struct Refused(&'static str, &'static str);
-
-static REFUSED: [Refused; 26] = [
+static REFUSED: [Case; 26] = [
     Refused("dir", "the settings are not valid TOML"),
     Refused(
         "dir = \"a\"\ndir = \"a\"",
@@ -157,29 +147,7 @@ static REFUSED: [Refused; 26] = [
     Refused("prefill-for-recycle = \"true\"", "prefill-for-recycle"),
 ];
 
-impl Row for Refused {
-    type State = ();
-
-    fn holds(&self, alloc: Global, _: &mut ()) -> Result<bool, Fault> {
-        let document = document_of(alloc, self.0)?;
-        let is_refused = match by_table(alloc, document.as_str()) {
-            Err(Fault::InvalidArgument(reason)) => reason == self.1,
-            _ => false,
-        };
-        Ok(is_refused && by_serde(alloc, document.as_str()).is_none())
-    }
-}
-
-#[test]
-fn both_refuse_the_same_settings(rt: HostRuntime) -> Result<(), Fail> {
-    rows_hold(rt.alloc(), &mut (), &REFUSED)
-}
-
-/// A document of which only `serde` reads settings, why `raft_settings` refuses it, and a whole
-/// line of the text that is then written for the settings.
-struct Different(&'static str, &'static str, &'static str);
-
-static DIFFERENT: [Different; 4] = [
+static DIFFERENT: [Case; 4] = [
     // A mode as a table whose key is its name.
     Different(
         "name = \"store\"\n[raft-engine]\nrecovery-mode = { tolerate-any-corruption = {} }",
@@ -205,25 +173,56 @@ static DIFFERENT: [Different; 4] = [
     ),
 ];
 
-impl Row for Different {
+fn tables() -> [&'static [Case]; 3] {
+    [&ACCEPTED, &REFUSED, &DIFFERENT]
+}
+
+fn is_accepted(alloc: Global, lines: &str, wanted: &str) -> Result<bool, Fault> {
+    let document = document_of(alloc, lines)?;
+    let read = by_table(alloc, document.as_str())?;
+    let written = write(alloc, &read)?;
+    Ok(by_serde(alloc, document.as_str()) == Some(read) && has_line(written.as_str(), wanted))
+}
+
+// Whether `raft_settings` refuses the document for this reason.
+fn is_refused(alloc: Global, document: &str, wanted: &str) -> bool {
+    match by_table(alloc, document) {
+        Err(Fault::InvalidArgument(reason)) => reason == wanted,
+        _ => false,
+    }
+}
+
+fn is_refused_by_both(alloc: Global, lines: &str, wanted: &str) -> Result<bool, Fault> {
+    let document = document_of(alloc, lines)?;
+    let refused = is_refused(alloc, document.as_str(), wanted);
+    Ok(refused && by_serde(alloc, document.as_str()).is_none())
+}
+
+// Whether `serde` reads settings that are written with this line.
+fn is_written(alloc: Global, document: &str, line: &str) -> Result<bool, Fault> {
+    match by_serde(alloc, document) {
+        Some(config) => Ok(has_line(write(alloc, &config)?.as_str(), line)),
+        None => Ok(false),
+    }
+}
+
+impl Row for Case {
     type State = ();
 
     fn holds(&self, alloc: Global, _: &mut ()) -> Result<bool, Fault> {
-        let is_refused = match by_table(alloc, self.0) {
-            Err(Fault::InvalidArgument(reason)) => reason == self.1,
-            _ => false,
-        };
-        let Some(config) = by_serde(alloc, self.0) else {
-            return Ok(false);
-        };
-        let written = write(alloc, &config)?;
-        Ok(is_refused && has_line(written.as_str(), self.2))
+        match self {
+            Accepted(lines, wanted) => is_accepted(alloc, lines, wanted),
+            Refused(lines, wanted) => is_refused_by_both(alloc, lines, wanted),
+            Different(document, reason, line) => {
+                Ok(is_refused(alloc, document, reason) && is_written(alloc, document, line)?)
+            }
+        }
     }
 }
 
 #[test]
-fn serde_accepts_more(rt: HostRuntime) -> Result<(), Fail> {
-    rows_hold(rt.alloc(), &mut (), &DIFFERENT)
+fn both_read_the_same_settings(rt: HostRuntime) {
+    assert_tables(&rt, rt.alloc(), &mut (), &tables());
 }
 
 fn all_set(alloc: Global) -> Result<Config, Fault> {
