@@ -62,6 +62,28 @@ class Calls:
         same = all(before.get(path) == state for path, state in left.items() if path != target)
         self.expect(f"call {call}: it is as it was", same)
 
+    def killed_rescues(self):
+        """A salvage that is killed at any of its calls leaves no target, or all. An import that is killed begins again."""
+        source, _ = self.numbered("killed-source")
+        wanted, before = self.run(source, "sum").stdout, state_of(source)
+        target = os.path.join(self.work, "killed-target")
+        for words in ([source, "salvage", target], [target, "import", "--from-folder", source]):
+            for call in range(1, 1000):
+                ran = self.run(*words, "--target", "1KB", env=self.calling(KILL=str(call)))
+                if ran.returncode == 0:
+                    break
+                self.expect(f"{words[1]}: call {call}: killed", ran.returncode == -signal.SIGKILL)
+                if words[1] == "import":
+                    ran = self.run(*words, "--target", "1KB", "--replace")
+                    self.expect(f"import after a kill at call {call}: {ran}", ran.returncode == 0)
+                if words[1] == "import" or os.path.exists(target):
+                    self.expect(f"{words[1]}: call {call}: all is there", self.run(target, "sum").stdout == wanted)
+                for path in (target, target + ".part"):
+                    shutil.rmtree(path, ignore_errors=True)
+            self.expect(f"{words[1]} is killed at each call: {call}", call > 20)
+            shutil.rmtree(target)
+        self.expect("killed rescues leave their source", state_of(source) == before)
+
     def refused_calls(self):
         """A call that the system refuses is told with its text, the call and the file."""
         folder = os.path.join(self.work, "refused-calls")

@@ -2,6 +2,8 @@
 import os
 import stat
 
+HEADER = 69  # bytes of a file's header in version 2
+
 
 def state_of(folder):
     """Each path below a folder with its kind, rights, number, time of change and bytes."""
@@ -48,3 +50,16 @@ def numbers_in(told):
     """Of lines of a word and a number, the number by the word; `dropped` and the like have more behind it."""
     lines = [line.split() for line in told.splitlines() if not line.startswith((b"group ", b"file "))]
     return {line[0].decode(): int(line[1]) for line in lines}
+
+
+def records_of(data):
+    """Of a file's bytes each record's place, kind, entries block and footer; and where they end."""
+    at, found = 61 if data[60] == 1 else HEADER, []
+    while len(data) - at >= 16:
+        size, footer = int.from_bytes(data[at : at + 8], "big"), int.from_bytes(data[at + 8 : at + 16], "big")
+        length = size >> 8
+        if size % 256 > 1 or footer < 16 or length < footer + 5 or at + length > len(data):
+            break
+        found.append((at, size % 256, data[at + 16 : at + footer], data[at + footer : at + length]))
+        at += length
+    return found, at

@@ -76,7 +76,7 @@ class FullDisk(Tests):
 
     def refused_put(self):
         ran = self.do("put", 2, "large", "@" + self.large)
-        says = all(word in ran.stderr for word in (b"no space is left", b"free a block", b"stands"))
+        says = all(word in ran.stderr for word in (b"no space is left", b"free a block", b"confirmed"))
         self.expect(f"a put that finds no space: {ran.returncode} {ran.stderr}", ran.returncode == 1 and says)
         self.keeps_all("behind a refused put")
         ran = self.do("rewrite", "append")

@@ -47,7 +47,7 @@ class Plans:
         wanted = {(name, checks[check], changes[change]) for name, check, change in rows}
         with open(os.path.join(ROOT, "docs/RAFTCTL.md"), encoding="utf-8") as file:
             told = set(re.findall(r"^\| `([a-z-]+)` \| .* \| (\d) \| (\d) \| [^|]*\|$", file.read(), re.M))
-        self.expect(f"the table of the document: {wanted ^ told}", wanted == told and len(told) == 12)
+        self.expect(f"the table of the document: {wanted ^ told}", wanted == told and len(told) == 13)
 
     def plans(self):
         """Each kind of item: its statuses, the same lines from each command, and what its command mends."""
@@ -99,6 +99,8 @@ class Plans:
             self.expect(f"{case}: {command} prints the plan: {told} {ran.stderr}", set(wanted) == set(told))
             if command != "repair --dry-run" and ran.returncode != 1:
                 self.expect(f"{case}: {command}: {ran.returncode}", ran.returncode == check)
+        if check == 6:
+            self.expect(f"{case}: a dump ends with it", self.run(folder, "dump", *words).returncode == check)
         self.expect(f"{case}: nothing is changed", state_of(folder) == before)
         if change:
             ran = self.run(folder, "put", "1", "a", "b", *words)

@@ -4,8 +4,9 @@
     tools/disk-tests/rescue_tests.py crates/raftctl/out/raftctl [--logs N] [--compressed N] [--seed N]
 
 `sum`, `import`, `salvage`, `truncate`, `lines` and `append` of several groups. N random logs are dumped and imported (200
-without the word), and N have their entries compressed by Debian's liblz4, as raft-engine writes them, and are imported
-from their folder (1,000 without the word). Prints what went wrong, and how much was tried; the status is 1 if something did.
+without the word), and N have their entries compressed by Python's lz4 or by liblz4, as raft-engine writes them, and are
+imported from their folder (1,000 without the word). Prints what went wrong, and how much was tried; the status is 1 if
+something did.
 """
 import argparse
 import ctypes
@@ -18,36 +19,29 @@ import sys
 import tempfile
 import zlib
 
-from folders import add, bytes_of, flip, logs_in, state_of
+from folders import HEADER, add, bytes_of, flip, logs_in, records_of, state_of
+from gap_cases import Gaps
 
-HEADER = 69  # bytes of a file's header in version 2
 GROUPS = (1, 2, 3)
 
 
 def compressor():
-    """`LZ4_compress_default` of liblz4."""
+    """What compresses as raft-engine does: the number of bytes in four, the least first, and a block of LZ4. It is Python's
+    lz4 (Debian's python3-lz4), or liblz4 without that, and its name."""
+    try:
+        from lz4.block import compress
+        return compress, "Python's lz4"
+    except ImportError:
+        pass
     library = ctypes.CDLL("liblz4.so.1")
 
-    def compress(data):
+    def compress_by_library(data):
         room = library.LZ4_compressBound(len(data))
         out = ctypes.create_string_buffer(room)
         length = library.LZ4_compress_default(data, out, len(data), room)
-        return out.raw[:length]
+        return len(data).to_bytes(4, "little") + out.raw[:length]
 
-    return compress
-
-
-def records_of(data):
-    """Of a file's bytes each record's place, kind, entries block and footer; and where they end."""
-    at, found = 61 if data[60] == 1 else HEADER, []
-    while len(data) - at >= 16:
-        size, footer = int.from_bytes(data[at : at + 8], "big"), int.from_bytes(data[at + 8 : at + 16], "big")
-        length = size >> 8
-        if size % 256 > 1 or footer < 16 or length < footer + 5 or at + length > len(data):
-            break
-        found.append((at, size % 256, data[at + 16 : at + footer], data[at + footer : at + length]))
-        at += length
-    return found, at
+    return compress_by_library, "liblz4"
 
 
 def record(kind, block, footer):
@@ -56,12 +50,12 @@ def record(kind, block, footer):
 
 
 def compressed(data, compress, least):
-    """The same file with each block of so many bytes compressed: their number, least byte first, and a block of LZ4."""
+    """The same file with each block of so many bytes compressed."""
     found, end = records_of(data)
     out = data[: found[0][0]] if found else data[:end]
     for _, kind, block, footer in found:
         if kind == 0 and len(block) - 4 >= least:
-            kept = (len(block) - 4).to_bytes(4, "little") + compress(block[:-4])
+            kept = compress(block[:-4])
             out += record(1, kept + zlib.crc32(kept).to_bytes(4, "little"), footer)
         else:
             out += record(kind, block, footer)
@@ -99,7 +93,7 @@ class Model:
         return found
 
 
-class Tests:
+class Tests(Gaps):
     def __init__(self, program, work, seed):
         self.program, self.work, self.random = os.path.abspath(program), work, random.Random(seed)
         self.tried = self.bad = 0
@@ -184,7 +178,8 @@ class Tests:
             shutil.rmtree(folder)
 
     def compressed(self, count):
-        compress = compressor()
+        compress, name = compressor()
+        print(f"blocks are compressed by {name}")
         found = 0
         for number in range(count):
             folder, _ = self.random_log(f"plain{number}")
@@ -227,32 +222,39 @@ class Tests:
         return next((it[2] for it in records_of(bytes_of(path))[0] if it[1] == 1), b"")
 
     def damaged(self, name, count, how):
-        """A log of which one record in each of so many files is damaged, and the model of what can be read."""
+        """A log of which one record in each of so many files is damaged, the model of what can be read, and what begins the
+        line on each damaged record."""
         folder = self.place(name)
         items, _ = self.items(160)
         self.write(folder, items)
         files = sorted(n for n in logs_in(folder) if n.endswith(".raftlog"))
-        self.expect(f"{name} has files: {files}", len(files) >= count)
-        chosen, model, number = self.random.sample(files, count), Model(), 0
+        found = {file: records_of(bytes_of(os.path.join(folder, file)))[0] for file in files}
+        usable = {file: [place for place, it in enumerate(found[file]) if it[2] or how != "entries"] for file in files}
+        # Zeros at the end of the last file are room made ahead.
+        files_to_hurt = [file for file in (files[:-1] if how == "zeros" else files) if usable[file]]
+        self.expect(f"{name} has files: {files_to_hurt}", len(files_to_hurt) >= count)
+        chosen = self.random.sample(files_to_hurt, count)
+        lost, model, lines, number = {file: self.random.choice(usable[file]) for file in chosen}, Model(), [], 0
         for file in files:
-            path = os.path.join(folder, file)
-            found, end = records_of(bytes_of(path))
-            lost = self.random.randrange(len(found)) if file in chosen else None
-            for place, (at, _, block, footer) in enumerate(found):
-                if place == lost:
-                    self.hurt(path, at, 16 + len(block) + len(footer), how)
-                    item = items[number]
-                    if item["kind"] == "entry" and how == "entries" and len(block) > 0:
-                        # The footer still says which entries are lost.
-                        held = model.entries[item["group"]]
-                        model.entries[item["group"]] = {i: v for i, v in held.items() if i < item["index"]}
-                    elif item["kind"] in ("compact", "clean") and how == "entries":
-                        model.apply(item)
+            for place, (at, _, block, footer) in enumerate(found[file]):
+                if place == lost.get(file):
+                    self.hurt(os.path.join(folder, file), at, 16 + len(block) + len(footer), how)
+                    lines.append(self.lost_line(file, at, items[number], how, model))
                 else:
                     model.apply(items[number])
                 number += 1
         self.expect(f"{name}: {number} records", number == len(items))
-        return folder, model, chosen
+        return folder, model, lines
+
+    @staticmethod
+    def lost_line(file, at, item, how, model):
+        """What begins the line on a damaged record. If only its entries are, the footer still says which they were."""
+        line = f"unread {file} offset {at} "
+        if how == "entries":
+            held, index = model.entries[item["group"]], item["index"]
+            model.entries[item["group"]] = {i: v for i, v in held.items() if i < index}
+            line += f"lost-group {item['group']} first {index} last {index}"
+        return line.encode()
 
     @staticmethod
     def hurt(path, at, length, how):
@@ -262,18 +264,22 @@ class Tests:
             flip(path, at + 16)
         elif how == "footer":
             flip(path, at + length - 2)
+        elif how == "zeros":
+            with open(path, "r+b") as file:
+                file.seek(at)
+                file.write(bytes(length))
         else:
             with open(path, "r+b") as file:
                 file.seek(at)
                 file.write(os.urandom(length))
 
     def salvages(self):
-        for how in ("header", "footer", "random"):
+        for how in ("header", "footer", "random", "zeros", "entries"):
             for turn in range(4):
-                folder, model, chosen = self.damaged(f"{how}{turn}", 5, how)
+                folder, model, lines = self.damaged(f"{how}{turn}", 5, how)
                 target, before = self.place(f"saved-{how}{turn}"), state_of(folder)
                 ran = self.run(folder, "salvage", target)
-                told = all(b"unread " + name.encode() in ran.stdout for name in chosen)
+                told = all(line in ran.stdout for line in lines)
                 self.expect(f"salvage {how}: {ran}", ran.returncode == 4 and told and state_of(folder) == before)
                 self.holds(f"salvage {how}", target, model)
                 self.told_gaps(ran.stdout, model)
@@ -288,6 +294,14 @@ class Tests:
                 if one + 1 != other:
                     line = f"group {group} missing-from {one + 1} to {other - 1}"
                     self.expect(f"{line}: {told}", line in lines)
+            usable = model.usable(group)
+            left = [index for index in held if index not in usable]
+            named = set()
+            for line in lines:
+                words = line.split()
+                if words[:3] == ["group", str(group), "left-out-from"]:
+                    named |= set(range(int(words[3]), int(words[5]) + 1))
+            self.expect(f"left out of group {group}: {named} {left}", named == set(left))
 
     def kept(self):
         """What a repair cut off, or moved aside, comes back."""
@@ -412,6 +426,16 @@ def main():
         tests.kept()
         tests.stale()
         tests.ends()
+        tests.zeros()
+        tests.kept_zeros()
+        tests.gaps()
+        tests.rewritten_gaps()
+        tests.sound_gaps()
+        tests.aligned()
+        tests.older_keys()
+        tests.known_limits()
+        tests.open_sources()
+        tests.pipes()
         tests.statuses()
         tests.imports(asked.logs)
         tests.compressed(asked.compressed)

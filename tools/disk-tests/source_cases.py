@@ -6,6 +6,7 @@ import subprocess
 
 from folders import logs_in, numbers_in, state_of
 
+NOBODY = 65534
 LIMIT = 700    # KB that a file may have, where an import fails in the middle
 
 
@@ -172,11 +173,11 @@ class Sources:
             self.expect(f"{words} --replace --dry-run: {ran}", ran.returncode == 0 and ran.stdout.startswith(told))
 
     def commanded_entries(self):
-        """Entries that the lines themselves compact or clean away are not replaced."""
+        """Entries that the lines themselves compact or clean away are removed, not replaced."""
         rows = [
-            ('{"group":1,"kind":"compact","index":5}', ""),
-            ('{"group":1,"kind":"clean"}', ""),
-            ('{"group":1,"kind":"compact","index":3}', "replaced 1 first 3 last 4\n"),
+            ('{"group":1,"kind":"compact","index":5}', "removed 1 first 1 last 4\n"),
+            ('{"group":1,"kind":"clean"}', "removed 1 first 1 last 4\n"),
+            ('{"group":1,"kind":"compact","index":3}', "replaced 1 first 3 last 4\nremoved 1 first 1 last 2\n"),
         ]
         for line, told in rows:
             folder = self.place("commanded")
@@ -185,6 +186,112 @@ class Sources:
             lines = line + '\n{"group":1,"kind":"entry","index":9,"value":"z"}\n'
             ran = self.run(folder, "import", input=lines.encode())
             self.expect(f"{line}: {ran}", ran.returncode == (7 if told else 0) and ran.stdout.startswith(told.encode()))
+
+    def changed_contents(self):
+        """N2: an import says what of a log it replaces or removes, and does it only if that is asked."""
+        def item(kind, **more):
+            return {"group": 1, "kind": kind, **more}
+
+        put, delete, clean = (lambda key, value: item("put", key=key, value=value)), (lambda key: item("delete", key=key)), item("clean")
+        own = {"a": "1", "b": "2", "c": "3"}
+        rows = [
+            ([item("compact", index=3)], ["removed 1 first 1 last 2"], own),
+            ([item("compact", index=9)], ["removed 1 first 1 last 4"], own),
+            ([item("compact", index=1)], [], own),
+            ([item("compact", index=2), item("compact", index=4)], ["removed 1 first 1 last 3"], own),
+            ([clean], ["removed 1 first 1 last 4", "removed 1 keys 3"], {}),
+            ([clean, put("a", "1"), put("b", "9")], ["removed 1 first 1 last 4", "replaced 1 keys 1", "removed 1 keys 1"],
+             {"a": "1", "b": "9"}),
+            ([clean, put("a", "1"), delete("a")], ["removed 1 first 1 last 4", "removed 1 keys 3"], {}),
+            ([delete("a"), delete("a"), delete("none")], ["removed 1 keys 1"], {"b": "2", "c": "3"}),
+            ([delete("a"), put("a", "1")], [], own),
+            ([put("a", "9"), put("b", "9")], ["replaced 1 keys 2"], {"a": "9", "b": "9", "c": "3"}),
+            ([put("a", "9"), put("a", "1")], [], own),
+            ([put("d", "4"), {**put("a", "9"), "group": 2}], [], {**own, "d": "4"}),
+            ([item("entry", index=4, value="z"), delete("c")], ["replaced 1 first 4 last 4", "removed 1 keys 1"], {"a": "1", "b": "2"}),
+        ]
+        for items, told, keys in rows:
+            folder = self.place("changed-contents")
+            shutil.rmtree(folder, ignore_errors=True)
+            self.run(folder, "append", 1, *"wxyz")
+            for key, value in own.items():
+                self.run(folder, "put", 1, key, value)
+            lines = "".join(json.dumps(each) + "\n" for each in items).encode()
+            wanted = "".join(line + "\n" for line in told).encode()
+            before = self.run(folder, "sum").stdout
+            ran = self.run(folder, "import", input=lines)
+            self.expect(f"{items}: {ran}", ran.returncode == (7 if told else 0) and ran.stdout.startswith(wanted))
+            if told:
+                self.expect(f"{items}: nothing is written", self.run(folder, "sum").stdout == before)
+                ran = self.run(folder, "import", "--replace", input=lines)
+                self.expect(f"{items}: --replace: {ran}", ran.returncode == 0 and ran.stdout.startswith(wanted))
+            found = dict(line.split("\t") for line in self.run(folder, "scan", 1).stdout.decode().splitlines())
+            self.expect(f"{items}: {found}", found == keys)
+        folder, other = self.place("changed-keys"), self.place("changing-keys")
+        for each, value in ((folder, "1"), (other, "2")):
+            self.run(each, "put", 1, "a", value)
+            self.run(each, "put", 1, "b", "3")
+        ran = self.run(folder, "import", "--from-folder", other)
+        self.expect(f"of a folder: {ran}", ran.returncode == 7 and ran.stdout == b"replaced 1 keys 1\n")
+        ran = self.run(folder, "import", "--from-folder", other, "--replace")
+        self.expect(f"of a folder: --replace: {ran}", ran.returncode == 0 and ran.stdout.startswith(b"replaced 1 keys 1\n"))
+
+    def targets_inside(self):
+        """A salvage, a fork and an import write no log into the folder that they read, whatever its path is."""
+        folder = self.place("outer")
+        self.run(folder, "load", 6, 40)
+        os.mkdir(os.path.join(folder, "empty"))
+        os.symlink(folder, self.place("outer-link"))
+        before = state_of(folder)
+        for below in ("saved", "empty", "empty/saved", "none/saved"):
+            for outer in (folder, self.place("outer-link"), os.path.join(folder, "empty", "..")):
+                target = os.path.join(outer, below)
+                for words in ([folder, "salvage", target], [folder, "fork", target], [target, "import", "--from-folder", folder]):
+                    ran = self.run(*words)
+                    self.expect(f"{words}: {ran}", ran.returncode == 1 and state_of(folder) == before)
+        ran = self.run(folder, "salvage", folder + "-beside")
+        self.expect(f"one beside it: {ran}", ran.returncode == 0)
+
+    def targets_beside_files(self):
+        """D7: a salvage of named files writes nothing into the log that has one of them."""
+        folder, other = self.place("named-outer"), self.place("named-other")
+        for each in (folder, other):
+            self.run(each, "load", 6, 40)
+        before = state_of(folder)
+        file = os.path.join(folder, name_of(1))
+        for target in ("saved", "none/saved", "../named-outer/saved"):
+            ran = self.run(other, "salvage", os.path.join(folder, target), file)
+            told = ran.returncode == 1 and b"the folder of a log" in ran.stderr and state_of(folder) == before
+            self.expect(f"{target}: {ran}", told)
+        alone = self.place("named-alone")
+        os.mkdir(alone)
+        shutil.copy(file, alone)
+        ran = self.run(other, "salvage", os.path.join(alone, "saved"), os.path.join(alone, name_of(1)))
+        same = self.run(os.path.join(alone, "saved"), "sum").stdout == self.run(folder, "sum").stdout
+        self.expect(f"beside a file that is in no log's folder: {ran}", ran.returncode == 0 and same)
+
+    def unreadable_files(self):
+        """D6: a file that may not be read ends a salvage, which names it; the others come back by their names."""
+        if os.geteuid() != 0:
+            print("not tried: a file that may not be read (only root can make it)")
+            return
+        os.chmod(self.work, 0o755)
+        folder, _ = self.numbered("unreadable")
+        files, place = sorted(logs_in(folder)), self.place("unreadable-saved")
+        os.mkdir(place)
+        os.chown(place, NOBODY, NOBODY)
+        for path in [folder] + [os.path.join(folder, name) for name in os.listdir(folder)]:
+            os.chown(path, NOBODY, NOBODY)
+        shut = os.path.join(folder, files[0])
+        os.chown(shut, 0, 0)
+        os.chmod(shut, 0o600)
+        user = {"user": NOBODY, "group": NOBODY, "extra_groups": []}
+        ran = self.run(folder, "salvage", os.path.join(place, "all"), **user)
+        told = files[0].encode() in ran.stderr and b"ermission" in ran.stderr
+        self.expect(f"salvage: {ran}", ran.returncode == 1 and told and not os.path.exists(os.path.join(place, "all")))
+        ran = self.run(folder, "salvage", os.path.join(place, "others"), *files[1:], **user)
+        keys = len(self.run(os.path.join(place, "others"), "scan", 1).stdout.splitlines())
+        self.expect(f"by their names: {keys} {ran}", ran.returncode == 0 and 0 < keys < 60)
 
     def failed_imports(self):
         """An import that fails in the middle says how many items the log has, and begins again with --replace."""

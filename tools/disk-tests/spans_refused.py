@@ -4,9 +4,9 @@
     spans_refused.py RAFTCTL WORK
 
 The last file of a log is taken away, and then a load gives its number to another file; or the first one is, and a purge drops
-files after it. The first writes of the note SPANS fail, from none to some that leave the command a later write or sync. Then
-the note is put back as its last sync left it, as a power cut may: `check` must report a loss with 6. Status: 0 if it does each
-time. Over raft_disk of 77cd550b 7 of the 16 losses are forgotten. If RAFTCTL isn't built, all is left out."""
+files after it. The first writes of the note SPANS fail, from none to all of the purge's. Then the note is put back as its last
+sync left it, as a power cut may: `check` must report a loss with 6. Status: 0 if it does each time. raft_disk of 77cd550b forgets
+some losses of both kinds, that of a59b04a9 those of a purge from 4 refused notes on. If RAFTCTL isn't built, all is left out."""
 import os
 import shutil
 import subprocess
@@ -70,7 +70,7 @@ def main():
         return 0
     os.makedirs(work, exist_ok=True)
     log = Log(os.path.abspath(raftctl), work)
-    cases = [(-1, ('load', KEYS, SIZE, '--sync-each', 1, '--cut'), 12), (0, ('rewrite', 'append', '--cut'), 4)]
+    cases = [(-1, ('load', KEYS, SIZE, '--sync-each', 1, '--cut'), 12), (0, ('rewrite', 'append', '--cut'), 12)]
     held = [is_remembered(log, which, words, refused) for which, words, count in cases for refused in range(count)]
     print(f'{held.count(True)} of {len(held)} losses are remembered')
     return 0 if all(held) else 1

@@ -297,7 +297,7 @@ class Tests:
         ran = limited(8192, "put 1 a b --target 1MB")
         self.expect(f"a smaller target: {ran}", ran.returncode == 0 and not ran.stderr)
         ran = limited(20, "get 1 a")
-        self.expect(f"a look: {ran}", ran.stdout == b"b\n" and b"SIGXFSZ" in ran.stderr)
+        self.expect(f"a look: {ran}", ran.stdout == b"b\n" and not ran.stderr)
         self.file("limit-value", "v" * 30000)
         ran = limited(20, f'put 1 a "@{self.place("limit-value")}"', "trap '' XFSZ;")
         self.expect(f"a limit as an error: {ran}", ran.returncode == 1 and b"File too large" in ran.stderr)
@@ -367,8 +367,28 @@ class Tests:
         for program in (["true"], ["false"], ["head", "-c", "5"]):
             ran = subprocess.run([DECODE, *program], input=dumped, capture_output=True, check=False)
             self.expect(f"{program}: {ran.stderr}", ran.returncode == 1 and ran.stderr)
+        self.undecoded(dumped)
         ran = subprocess.run([DECODE, DECODE, "--hex"], input=b"no line\n", capture_output=True, check=False)
         self.expect(f"no line: {ran}", ran.returncode == 1 and b"line 1" in ran.stderr)
+
+    def undecoded(self, dumped):
+        """D8: a program without an answer, texts with control characters, and a dump that ends early."""
+        for program in (["sh", "-c", "cat > /dev/null"], ["sleep", "60"]):
+            ran = subprocess.run([DECODE, "--seconds", "1", *program], input=dumped, capture_output=True, check=False, timeout=30)
+            self.expect(f"{program}: {ran.stderr}", ran.returncode == 1 and b"within 1.0 s" in ran.stderr)
+        text = "a\x1b[31m\tb\nc\\d\u2028\u00e4"
+        line = {"queue": "append", "number": 1, "offset": 69, "group": 1, "kind": "entry", "index": 1, "value": text}
+        told = json.dumps(line).encode() + b"\n"
+        # Without the option, `cat` returns each entry as its text.
+        ran = subprocess.run([DECODE, "--text", "cat"], input=told, capture_output=True, check=False)
+        wanted = "append\t1\t69\t1\t1\ta\\x1b[31m\\tb\\nc\\\\d\\u2028\u00e4\n"
+        self.expect(f"control characters: {ran}", ran.returncode == 0 and ran.stdout.decode() == wanted)
+        ran = subprocess.run([DECODE, "cat"], input=told, capture_output=True, check=False)
+        self.expect(f"as an object: {ran}", ran.returncode == 0 and json.loads(ran.stdout) == {**line, "decoded": text})
+        end = json.dumps({"queue": "append", "number": 1, "offset": 99, "error": "corruption"}).encode()
+        for words in ([], ["--text"]):
+            ran = subprocess.run([DECODE, *words, "cat"], input=told + end, capture_output=True, check=False)
+            self.expect(f"a dump that ends early {words}: {ran}", ran.returncode == 4 and b"corruption" in ran.stderr)
 
     def memory_of(self, *words):
         """The status and the peak of a run, in bytes."""

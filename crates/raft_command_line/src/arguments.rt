@@ -1,11 +1,9 @@
 //! The command line.
 
+use crate::building::command;
 use crate::change_forms::CHANGE_FORMS;
 use crate::escaping::printable;
-use crate::forms::{
-    CHANGE_OPTIONS, ChangeSort, EACH, Form, GroupLookSort, Kind, LookSort, OPTIONS, OtherSort,
-    STATUSES, Sort, Word,
-};
+use crate::forms::{ChangeSort, EACH, Form, GroupLookSort, LookSort, OtherSort, Sort};
 use crate::look_forms::LOOK_FORMS;
 use crate::modes::mode_named;
 use crate::request::{
@@ -13,15 +11,10 @@ use crate::request::{
     Watch,
 };
 use clap::error::ErrorKind;
-use clap::{Arg, ArgAction, ArgMatches, Command, Error, value_parser};
+use clap::{ArgMatches, Error};
 use raft_base::ReadableSize;
 use raft_config::RecoveryMode;
 use std::alloc::{AllocError, Global};
-
-/// The project's, that of the crate whose files it reads and writes, and room for a commit, which `tools/stamp` writes
-/// into a copy of the program.
-const VERSION: &str = "0.2.0 (the files of raft-engine 0.4.2), \
-    commit unknown                                 ";
 
 /// What a line's kind may be, as `dump` prints it.
 const KINDS: [&str; 5] = ["put", "delete", "entry", "clean", "compact"];
@@ -37,7 +30,7 @@ pub fn parse<'a>(alloc: Global, words: &'a [String]) -> Result<Request<'a>, Erro
     read_request(alloc, &matches)
 }
 
-// Whether a word behind the folder is a command, or none was wanted there.
+// Whether a word after the folder is a command, or none is needed there.
 fn is_known(word: &str) -> bool {
     word.starts_with('-') || word == "help" || sort_named(word).is_some()
 }
@@ -97,7 +90,7 @@ fn request_if(whole: bool, request: Request<'_>) -> Result<Request<'_>, Error> {
     }
 }
 
-// Each line is an object if objects are asked for, and bytes alone or a picture are none.
+// With `--json` each line is an object; plain bytes and a picture are none.
 fn check_json(alloc: Global, name: &str, sort: Sort, options: &Options<'_>) -> Result<(), Error> {
     if !options.json {
         return Ok(());
@@ -464,75 +457,5 @@ fn read_load(matches: &ArgMatches<'_>, whole: &mut bool) -> Load {
         size: number(matches, "SIZE", whole),
         sync_each: matches.get_one("sync-each").unwrap_or(1),
         purge_each: matches.get_one("purge-each").unwrap_or(0),
-    }
-}
-
-fn command<'a>(alloc: Global) -> Result<Command<'a>, AllocError> {
-    let mut subcommands = Vec::new(alloc);
-    add_subcommands(alloc, &LOOK_FORMS, &[], &mut subcommands)?;
-    add_subcommands(alloc, &CHANGE_FORMS, &CHANGE_OPTIONS, &mut subcommands)?;
-    command_with(alloc, subcommands)
-}
-
-fn command_with<'a>(
-    alloc: Global,
-    subcommands: Vec<Command<'a>>,
-) -> Result<Command<'a>, AllocError> {
-    let folder = Word(
-        "FOLDER",
-        Kind::Text,
-        "The folder of the log; a command that changes it makes it where it is missing",
-    );
-    Command::new(alloc, "raftctl")
-        .version(VERSION.trim_end())
-        .about("Does one command on a log in a folder")
-        .after_help(STATUSES)
-        .subcommand_required(true)
-        .subcommands(subcommands)?
-        .arg(argument(alloc, folder))
-}
-
-fn add_subcommands<'a>(
-    alloc: Global,
-    forms: &[Form],
-    options: &[Word],
-    subcommands: &mut Vec<Command<'a>>,
-) -> Result<(), AllocError> {
-    for form in forms {
-        subcommands.push(subcommand(alloc, form, options)?)?;
-    }
-    Ok(())
-}
-
-fn subcommand<'a>(alloc: Global, form: &Form, options: &[Word]) -> Result<Command<'a>, AllocError> {
-    let mut arguments = Vec::new(alloc);
-    for word in form.words.iter().chain(options).chain(&OPTIONS) {
-        arguments.push(argument(alloc, *word))?;
-    }
-    Command::new(alloc, form.name)
-        .about(form.about)
-        .after_help(form.example)
-        .args(arguments)
-}
-
-fn argument<'a>(alloc: Global, word: Word) -> Arg<'a> {
-    let Word(name, kind, help) = word;
-    let argument = Arg::new(alloc, name)
-        .help(help)
-        .required(kind.is_required());
-    if kind.is_named() {
-        valued(argument.long(name), kind)
-    } else {
-        valued(argument, kind)
-    }
-}
-
-// With the values that a word of this kind has.
-fn valued<'a>(argument: Arg<'a>, kind: Kind) -> Arg<'a> {
-    match kind {
-        Kind::Text | Kind::OptionalText | Kind::NamedText => argument,
-        Kind::OptionalTexts => argument.num_args(1..),
-        Kind::Number | Kind::Optional | Kind::Named => argument.value_parser(value_parser!(u64)),
-        Kind::Flag => argument.action(ArgAction::SetTrue),
     }
 }

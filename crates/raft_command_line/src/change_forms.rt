@@ -25,7 +25,8 @@ pub(crate) static CHANGE_FORMS: [Form; 12] = [
     Form {
         name: "lines",
         sort: Sort::Lines,
-        about: "Puts the keys and values of a file of lines, each a key, a tab and a value; with --entries adds its entries",
+        about: "Puts the keys and values of a file of lines, each a key, a tab and a value; with \
+            --entries adds its entries",
         words: &[
             GROUP_OR_EACH,
             Word("FILE", Kind::Text, "The file; - for standard input"),
@@ -48,7 +49,8 @@ pub(crate) static CHANGE_FORMS: [Form; 12] = [
     Form {
         name: "append",
         sort: Sort::Append,
-        about: "Adds entries to a group, syncs them, and prints the first and the last index of them",
+        about: "Adds entries to a group, syncs them, and prints the first and the last index of \
+            them",
         words: &[
             GROUP_OR_EACH,
             Word(
@@ -59,12 +61,13 @@ pub(crate) static CHANGE_FORMS: [Form; 12] = [
             Word(
                 "lines",
                 Kind::NamedText,
-                "A file whose lines are values, behind those named; - for standard input",
+                "A file whose lines are values, after those named; - for standard input",
             ),
             Word(
                 "at",
                 Kind::Named,
-                "The first index; entries from it on are replaced. Else the one after the last, or 1",
+                "The first index; entries from it on are replaced. Else the one after the last, \
+                    or 1",
             ),
             NO_SYNC,
         ],
@@ -84,7 +87,8 @@ pub(crate) static CHANGE_FORMS: [Form; 12] = [
     Form {
         name: "truncate",
         sort: Sort::Change(ChangeSort::Truncate),
-        about: "Removes the entries of a group from an index on, syncs that, and prints how many and the last index that stays",
+        about: "Removes the entries of a group from an index on, syncs that, and prints how many \
+            and the last index that stays",
         words: &[
             GROUP,
             Word("INDEX", Kind::Number, "The first index that is removed"),
@@ -96,7 +100,9 @@ pub(crate) static CHANGE_FORMS: [Form; 12] = [
     Form {
         name: "import",
         sort: Sort::Import,
-        about: "Writes the batches that `dump --json` printed, in their order; or the contents of another log, whose entries may be compressed by LZ4; status 4 if not all of that log could be read",
+        about: "Writes the batches that `dump --json` printed, in their order; or the contents of \
+            another log, whose entries may be compressed by LZ4; status 4 if not all of that log \
+            could be read",
         words: &[
             Word(
                 "FILE",
@@ -113,12 +119,13 @@ pub(crate) static CHANGE_FORMS: [Form; 12] = [
                 Kind::NamedText,
                 "The second folder of that log, by its path from the first one",
             ),
-            Word("group", Kind::Named, "The items of this group alone"),
+            Word("group", Kind::Named, "The items of this group only"),
             KIND,
             Word(
                 "replace",
                 Kind::Flag,
-                "Replaces entries that the log has already; without it an import that would do so writes nothing",
+                "Replaces or removes what the log has; without it an import that would do so \
+                    writes nothing",
             ),
             NO_SYNC,
             DRY_RUN,
@@ -155,7 +162,8 @@ pub(crate) static CHANGE_FORMS: [Form; 12] = [
     Form {
         name: "rewrite",
         sort: Sort::Rewrite,
-        about: "Writes what still counts in log files anew, drops these, and prints how many, and which files are kept to be used again",
+        about: "Rewrites what still counts in log files, drops these files, and prints how many, \
+            and which files are kept for reuse",
         words: &[
             Word(
                 "FILES",
@@ -169,14 +177,16 @@ pub(crate) static CHANGE_FORMS: [Form; 12] = [
     Form {
         name: "purge",
         sort: Sort::Other(OtherSort::Purge),
-        about: "Drops log files as `rewrite` does, as far as the settings' thresholds ask for it; prints the groups to compact before",
+        about: "Drops log files as `rewrite` does, as far as the settings' thresholds ask for it; \
+            prints the groups to compact before",
         words: &[DRY_RUN],
         example: "Example: raftctl log purge",
     },
     Form {
         name: "repair",
         sort: Sort::Other(OtherSort::Repair),
-        about: "Opens the log in --mode, and keeps what that cuts off in files beside; with --cut moves files aside that it passes over",
+        about: "Opens the log in --mode, and keeps what that cuts off in files beside; with --cut \
+            moves files aside that it passes over",
         words: &[DRY_RUN],
         example: "Example: raftctl log repair --mode any",
     },

@@ -68,7 +68,7 @@ pub(crate) enum GroupLookSort {
     Entries,
 }
 
-/// A word's name, what it is, and what its help says.
+/// A word's name, its kind, and its help text.
 #[derive(Clone, Copy)]
 pub(crate) struct Word(pub &'static str, pub Kind, pub &'static str);
 
@@ -111,10 +111,10 @@ Statuses:
   4  check, consistency, fork: an opening would cut something off; dump: a file can't be read on;
      import, salvage: not all of the source could be read
   5  check, consistency, fork: an opening would fail
-  6  check, consistency, fork: an opening would pass files over, or leave out those of a folder
+  6  check, consistency, fork, dump: an opening would pass files over, or files are not read
   7  a change was refused, and nothing done: its opening would lose more than an unsynced tail
      explains; look with check, cut and keep with repair, or say --cut. Or an import would
-     replace entries: --replace allows it
+     replace or remove what the log has: --replace allows it
 
 `raftctl help COMMAND` has an example of each command.";
 
@@ -123,7 +123,7 @@ pub(crate) static OPTIONS: [Word; 8] = [
     Word(
         "settings",
         Kind::NamedText,
-        "A file of settings in TOML; else FOLDER/raftlog.toml where that stands",
+        "A file of settings in TOML; otherwise FOLDER/raftlog.toml if it exists",
     ),
     Word(
         "spill",
@@ -187,7 +187,7 @@ pub(crate) const GROUP_OR_EACH: Word = Word(
 pub(crate) const KIND: Word = Word(
     "kind",
     Kind::NamedText,
-    "The items of this kind alone: put, delete, entry, clean or compact",
+    "Only items of this kind: put, delete, entry, clean or compact",
 );
 
 pub(crate) const KEY: Word = Word("KEY", Kind::Text, "The key; @FILE for the bytes of a file");
@@ -200,10 +200,10 @@ pub(crate) const SIZE: Word = Word("SIZE", Kind::Number, "The bytes of each valu
 
 pub(crate) const LIMIT: Word = Word("limit", Kind::Named, "Prints so many lines at most");
 
-pub(crate) const RAW: Word = Word("raw", Kind::Flag, "Prints the bytes alone, as they are");
+pub(crate) const RAW: Word = Word("raw", Kind::Flag, "Prints only the bytes, as they are");
 
 pub(crate) const DRY_RUN: Word = Word(
     "dry-run",
     Kind::Flag,
-    "Does it in memory alone, and prints what it would do",
+    "Does it only in memory, and prints what it would do",
 );

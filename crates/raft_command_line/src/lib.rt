@@ -1,8 +1,9 @@
-//! The command line of raftctl: its commands as rows of a table, and what the words of a line ask for.
+//! The command line of raftctl: its commands as rows of a table, and the request of a line.
 #![tactic(auto)]
 
 mod arguments;
 mod arranging;
+mod building;
 mod change_forms;
 mod completion;
 mod escaping;

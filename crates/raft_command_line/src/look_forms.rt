@@ -18,7 +18,7 @@ pub(crate) static LOOK_FORMS: [Form; 17] = [
         sort: Sort::Look(LookSort::List),
         about: "Prints a line for each key: its group, itself and the bytes of its value",
         words: &[
-            Word("GROUP", Kind::Optional, "The keys of this group alone"),
+            Word("GROUP", Kind::Optional, "The keys of this group only"),
             LIMIT,
         ],
         example: "Example: raftctl log list 1 --limit 20",
@@ -81,16 +81,18 @@ pub(crate) static LOOK_FORMS: [Form; 17] = [
     Form {
         name: "stat",
         sort: Sort::Look(LookSort::Stat),
-        about: "Prints what the log holds, what an opening would lose, and a line for each group and file: how many bytes are live; with --json one object",
+        about: "Prints what the log holds, what an opening would lose, and a line for each group \
+            and file: how many bytes are live; with --json one object",
         words: &[],
         example: "Example: raftctl log stat --json",
     },
     Form {
         name: "sum",
         sort: Sort::Look(LookSort::Sum),
-        about: "Prints a checksum (SHA-256) of each group's entries and keys and one of all groups; equal contents have equal sums, however their files are laid out",
+        about: "Prints a checksum (SHA-256) of each group's entries and keys and one of all \
+            groups; equal contents have equal sums, however their files are laid out",
         words: &[
-            Word("GROUP", Kind::Optional, "This group alone"),
+            Word("GROUP", Kind::Optional, "This group only"),
             Word(
                 "FROM",
                 Kind::Optional,
@@ -108,19 +110,19 @@ pub(crate) static LOOK_FORMS: [Form; 17] = [
             Word(
                 "FILE",
                 Kind::OptionalText,
-                "The items of this file alone; with a `/` the path of a log file anywhere",
+                "Only the items of this file; with a `/` the path of a log file anywhere",
             ),
-            Word("group", Kind::Named, "The items of this group alone"),
+            Word("group", Kind::Named, "The items of this group only"),
             KIND,
             Word(
                 "from",
                 Kind::Named,
-                "Entries and compactions from this index on alone",
+                "Entries and compactions from this index on only",
             ),
             Word(
                 "to",
                 Kind::Named,
-                "Entries and compactions up to this index alone",
+                "Entries and compactions up to this index only",
             ),
         ],
         example: "Example: raftctl log dump --group 1 --kind entry --from 5 --to 9",
@@ -128,14 +130,17 @@ pub(crate) static LOOK_FORMS: [Form; 17] = [
     Form {
         name: "check",
         sort: Sort::Look(LookSort::Check),
-        about: "Prints a line for each file: what can be read, and what an opening in each mode would do; status 4 where one in --mode would cut something off, 5 where it would fail, 6 where it would pass files over",
+        about: "Prints a line for each file: what can be read, and what an opening in each mode \
+            would do; status 4 where one in --mode would cut something off, 5 where it would \
+            fail, 6 where it would pass files over",
         words: &[],
         example: "Example: raftctl log check --mode absolute",
     },
     Form {
         name: "consistency",
         sort: Sort::Look(LookSort::Consistency),
-        about: "Prints a line for each group whose entries have a hole, with the last index before the first one; status 3 if there is one, and 4, 5 and 6 as check",
+        about: "Prints a line for each group whose entries have a hole, with the last index \
+            before the first one; status 3 if there is one, and 4, 5 and 6 as check",
         words: &[],
         example: "Example: raftctl log consistency --json",
     },
@@ -149,7 +154,9 @@ pub(crate) static LOOK_FORMS: [Form; 17] = [
     Form {
         name: "watch",
         sort: Sort::Other(OtherSort::Watch),
-        about: "Prints once a second what a running log does: its files, bytes and records, the groups that grow and the dropped files; it leaves the writer its lock. On a terminal it draws a picture, with --json each look is an object",
+        about: "Prints once a second what a running log does: its files, bytes and records, the \
+            groups that grow and the dropped files; it leaves the writer its lock. On a terminal \
+            it draws a picture, with --json each look is an object",
         words: &[
             Word(
                 "each",
@@ -159,7 +166,7 @@ pub(crate) static LOOK_FORMS: [Form; 17] = [
             Word(
                 "count",
                 Kind::Named,
-                "Ends after so many looks; else it goes on until it is stopped",
+                "Ends after this number of looks; otherwise runs until it is stopped",
             ),
             Word(
                 "groups",
@@ -172,7 +179,7 @@ pub(crate) static LOOK_FORMS: [Form; 17] = [
     Form {
         name: "verify",
         sort: Sort::Look(LookSort::Verify),
-        about: "Counts the keys of `load` from 0 on; status 3 where one stands after a gap",
+        about: "Counts the keys of `load` from 0 on; status 3 if one exists after a gap",
         words: &[COUNT, SIZE],
         example: "Example: raftctl log verify 1000000 100",
     },
@@ -186,7 +193,8 @@ pub(crate) static LOOK_FORMS: [Form; 17] = [
     Form {
         name: "fork",
         sort: Sort::Other(OtherSort::Fork),
-        about: "Copies the log files that an opening keeps into a folder, and syncs them; statuses 4, 5 and 6 as check, if the copy is not the whole log",
+        about: "Copies the log files that an opening keeps into a folder, and syncs them; \
+            statuses 4, 5 and 6 as check, if the copy is not the whole log",
         words: &[Word(
             "TARGET",
             Kind::Text,
@@ -197,22 +205,25 @@ pub(crate) static LOOK_FORMS: [Form; 17] = [
     Form {
         name: "salvage",
         sort: Sort::Salvage,
-        about: "Reads every whole record of the folder's files, also behind broken ones and in .cut-N and .passed files, into a new log; the folder stays as it is; status 4 if something could not be read",
+        about: "Reads every whole record of the folder's files, also after broken ones and in \
+            .cut-N and .passed files, into a new log; the folder stays as it is; status 4 if \
+            something could not be read",
         words: &[
             Word(
                 "TARGET",
                 Kind::Text,
-                "The folder of the new log, which may not exist or is empty",
+                "The folder of the new log, which may not exist or is empty, outside this log's",
             ),
             Word(
                 "FILE",
                 Kind::OptionalTexts,
-                "These files alone: names in the folder, or paths with a `/`",
+                "Only these files: names in the folder, or paths with a `/`",
             ),
             Word(
                 "stale",
                 Kind::Flag,
-                "Also takes records that an earlier use of a file left, and files that a purge had dropped: they may bring back what was deleted",
+                "Also takes records that an earlier use of a file left, and files that a purge \
+                    had dropped: they may bring back what was deleted",
             ),
             DRY_RUN,
         ],

@@ -1,4 +1,4 @@
-//! What the program is asked to do.
+//! The request to the program.
 
 use raft_base::ReadableSize;
 use raft_config::{Config, RecoveryMode};
@@ -9,7 +9,7 @@ pub struct Request<'a> {
     pub folder: &'a str,
     pub options: Options<'a>,
     pub verb: Verb<'a>,
-    /// Whether what is changed is synced, and the log closed.
+    /// Whether the change is synced and the log closed.
     pub sync: bool,
 }
 
@@ -35,7 +35,7 @@ pub struct Options<'a> {
     pub hex: bool,
     /// No progress and no notes are printed.
     pub quiet: bool,
-    /// A value is printed as its bytes alone.
+    /// A value is printed as its bytes only.
     pub raw: bool,
     pub changing: Changing,
 }
@@ -43,18 +43,18 @@ pub struct Options<'a> {
 /// How a log is opened to be changed.
 #[derive(Clone, Copy)]
 pub struct Changing {
-    /// Whether it is opened where that loses more than an unsynced tail explains.
+    /// Whether it is opened even if that loses more than an unsynced tail.
     pub cut: bool,
     /// Whether no file is kept of what the opening cuts off.
     pub no_keep: bool,
     /// How many seconds are waited for a log that is open already.
     pub wait: u64,
-    /// Whether all is done in memory alone.
+    /// Whether everything is done only in memory.
     pub dry_run: bool,
 }
 
 impl Changing {
-    /// Where no word names another.
+    /// The defaults.
     pub const USUAL: Changing = Changing {
         cut: false,
         no_keep: false,
@@ -67,12 +67,14 @@ impl Changing {
 #[derive(Drop)]
 pub enum Verb<'a> {
     Put(u64, &'a str, &'a str),
-    /// A file of lines, each a key, a tab and a value; if no group is named, each line begins with its group.
+    /// A file of lines, each a key, a tab and a value; if no group is named, each line begins with
+    /// its group.
     Lines(Option<u64>, &'a str),
     /// A file of lines, each an index, a tab and a value, with groups as in `Lines`.
     EntryLines(Option<u64>, &'a str),
     Delete(u64, &'a str),
-    /// Values of entries, a file whose lines are such, and the index of the first; groups as in `Lines`.
+    /// Values of entries, a file whose lines are values, and the index of the first; groups as in
+    /// `Lines`.
     Append(Option<u64>, Vec<&'a str>, Option<&'a str>, Option<u64>),
     Compact(u64, u64),
     /// The entries from an index on are removed.
@@ -96,7 +98,7 @@ pub enum Verb<'a> {
 pub enum Purge {
     /// The Append queue's, whose records that still count are written to the Rewrite queue.
     Append,
-    /// The Rewrite queue's, whose records that still count are written anew.
+    /// The Rewrite queue; its records that still count are written again.
     Rewrite,
     /// The Append queue's first ones, of which nothing counts any more.
     Stale,
@@ -104,10 +106,11 @@ pub enum Purge {
     Expired,
 }
 
-/// Where items are read from, and which of them are written to the log.
+/// The source of items, and which of them are written to the log.
 #[derive(Clone, Copy)]
 pub struct Import<'a> {
-    /// A file of lines that `dump --json` printed; standard input if neither it nor a folder is named.
+    /// A file of lines that `dump --json` printed; standard input if neither it nor a folder is
+    /// named.
     pub file: Option<&'a str>,
     /// The folder of another log.
     pub folder: Option<&'a str>,
@@ -190,7 +193,8 @@ pub struct Range<'a> {
     pub reverse: bool,
 }
 
-/// How many keys, of how many bytes each, and after how many of them to sync, and to purge; 0 stands for never.
+/// The number of keys, the bytes of each, and after how many keys to sync and to purge; 0 means
+/// never.
 #[derive(Clone, Copy)]
 pub struct Load {
     pub count: u64,
@@ -246,8 +250,7 @@ impl<'a> Options<'a> {
         options
     }
 
-    /// The size at which a log file is full, as a word names it or the settings; 0 before these were
-    /// read.
+    /// The size at which a log file is full, of the option or the settings; 0 before these are read.
     pub fn target_bytes(&self) -> u64 {
         match (self.target, self.base) {
             (Some(target), _) => target.0,

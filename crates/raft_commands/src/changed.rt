@@ -5,10 +5,10 @@ use raft_disk::DiskFileSystem;
 use raft_looks::{tell_refusal, told};
 use raft_memory::MemoryFileSystem;
 
-/// Files whose system can be asked what it refused.
+/// Files whose last refusal by the system can be read.
 pub(crate) trait ChangedFiles {
-    /// Tells on standard error which call the system refused last, and why.
-    /// With `json` it is an object.
+    /// Prints on standard error which call the system refused last, and why. With `json` it is an
+    /// object.
     fn tell_refusal(&self, rt: &HostRuntime, json: bool) -> Result<()>;
 
     /// Deletes the reserved files that weren't read, since the opening doesn't want them.

@@ -1,8 +1,8 @@
 //! What a batch changes of a group.
 
 use raft_c_batch::Entry;
+use raft_contents::{Engine, LogBatch};
 use raft_env::FileSystem;
-use raft_log_engine::{Engine, LogBatch};
 use raft_records::{Command, Fault};
 use std::alloc::Global;
 

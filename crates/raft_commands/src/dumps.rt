@@ -1,13 +1,13 @@
 //! Items of log files, of a folder or of one file anywhere.
 
-use crate::looks::{note_unread, note_use};
+use crate::looks::{note_use, tell_unread};
 use anyhow::Result;
 use raft_command_line::{Dump, Options, Request};
 use raft_console::{Output, Progress, Status};
 use raft_inspect::{Filter, ItemKind};
 use raft_looks::{Folder, dump};
 
-/// Prints a line for each item that is asked for. A file whose name has a `/` is one of the system's.
+/// Prints a line for each requested item. A file whose name has a `/` is one of the system's.
 pub(crate) fn print_items(
     rt: HostRuntime,
     request: &Request<'_>,
@@ -45,6 +45,8 @@ fn print_file(
     dump(rt.alloc(), &folder, Some(name), filter, progress, out)
 }
 
+// The items of all files of the folder, or of one. What an opening would not read besides shows in
+// the status.
 fn print_folder(
     rt: HostRuntime,
     request: &Request<'_>,
@@ -55,10 +57,11 @@ fn print_folder(
 ) -> Result<Status> {
     let folder = Folder::open(rt, request.folder, &request.options)?;
     note_use(&rt, &folder, request)?;
-    if file.is_none() {
-        note_unread(&rt, &folder, request, progress)?;
-    }
-    dump(rt.alloc(), &folder, file, filter, progress, out)
+    let unread = match file {
+        Some(_) => Status::Done,
+        None => tell_unread(&rt, &folder, request, progress)?,
+    };
+    Ok(unread.or_worse(dump(rt.alloc(), &folder, file, filter, progress, out)?))
 }
 
 // The folder of a path with a `/`, and the name in it.

@@ -5,9 +5,9 @@ use anyhow::{Result, anyhow};
 use raft_c_batch::Entry;
 use raft_command_line::{Indexes, Options};
 use raft_console::{Output, failure, note_made};
+use raft_contents::Engine;
 use raft_env::FileSystem;
 use raft_inspect::Word;
-use raft_log_engine::Engine;
 use raft_records::{Fault, MessageExt};
 use std::alloc::Global;
 
@@ -18,7 +18,7 @@ const PAGE_BYTES: usize = 1024 * 1024;
 const BATCH_BYTES: usize = 1024 * 1024;
 
 /// Adds the entries of these runs, each from its index on or after the group's last one. It syncs
-/// with the last if that is asked, and prints their first and last index, after the group if each
+/// with the last batch if requested. It prints their first and last index, after the group if each
 /// line has one.
 pub(crate) fn append<F: FileSystem>(
     alloc: Global,
@@ -104,7 +104,7 @@ fn append_from<F: FileSystem>(
     write(alloc, engine, group, Change::Append(&entries), sync)
 }
 
-/// Prints the value of the entry, and says whether there is one.
+/// Prints the value of the entry. Returns whether there is one.
 pub(crate) fn get<F: FileSystem>(
     engine: &mut Engine<F>,
     group: u64,
@@ -147,7 +147,7 @@ pub(crate) fn list<F: FileSystem>(
     Ok(true)
 }
 
-// The index behind a last one.
+// The index after a last one.
 fn behind(last: Option<u64>, without: u64) -> u64 {
     match last {
         Some(last) => last.saturating_add(1),
@@ -155,7 +155,7 @@ fn behind(last: Option<u64>, without: u64) -> u64 {
     }
 }
 
-// Prints as many entries as one page has room for, and says how many.
+// Prints as many entries as one page has room for, and returns their number.
 fn list_page<F: FileSystem>(
     alloc: Global,
     engine: &mut Engine<F>,
@@ -198,7 +198,7 @@ pub(crate) fn compact<F: FileSystem>(
     }
 }
 
-/// Tells where the next entry gets its index, if the group has none left.
+/// Notes that the next entry may have any index, if the group has no entry left.
 pub(crate) fn note_emptied<F: FileSystem>(
     rt: &HostRuntime,
     engine: &Engine<F>,

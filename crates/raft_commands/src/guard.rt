@@ -1,4 +1,5 @@
-//! What the opening before a change would lose: the change is refused, or what is lost is kept.
+//! Before a change: if its opening would lose something, the change is refused, or the lost bytes
+//! are kept.
 
 use crate::changed::ChangedFiles;
 use crate::opening::broken;
@@ -14,20 +15,20 @@ use raft_opening_plan::{Change, Item, Kind, Plan, Row};
 use raft_records::{Fault, LogQueue};
 use std::alloc::Global;
 
-/// What is told where a change is refused.
+/// The text of a refused change.
 const REFUSED: &str = "nothing was done: the plan above says what mends it, `check` prints more, \
-    and `--cut` goes on and loses what the plan says";
+    and `--cut` continues and loses what the plan says";
 
 /// The same for a repair, which is refused for files that it doesn't cut.
 const UNREPAIRED: &str =
     "nothing was done: the plan above says what mends it, `check` prints more, \
-    and `repair --cut` moves aside what is passed over, or a stray in its place, and forgets what is \
-    missing";
+    and `repair --cut` moves aside what is passed over, or a stray in its place, and forgets what \
+    is missing";
 
 /// How often strays are moved aside.
 const MOST_STRAYS: u64 = 1000;
 
-/// The log files before an opening, and what it does with them.
+/// The log files before an opening, and its plan for them.
 struct Survey {
     queues: BothQueues,
     plan: Plan,
@@ -62,7 +63,7 @@ pub(crate) fn guard<F: FileSystem + ChangedFiles>(
     }
 }
 
-// What went wrong, after the files that keep something are deleted or told.
+// The error, after the files that keep something are deleted or printed.
 fn given_back(
     rt: &HostRuntime,
     request: &Request<'_>,
@@ -78,7 +79,7 @@ fn given_back(
     }
 }
 
-// Tells the plan, and whether the change goes on. It fails if the opening would.
+// Prints the plan. Returns whether the change continues. It fails if the opening would.
 fn goes_on<F: FileSystem>(
     rt: &HostRuntime,
     files: &mut F,
@@ -100,7 +101,7 @@ fn goes_on<F: FileSystem>(
     Ok(true)
 }
 
-// Fails if the opening would, and tells the plan.
+// Fails if the opening would, and prints the plan.
 fn check_opens<F: FileSystem>(
     rt: &HostRuntime,
     files: &mut F,
@@ -157,7 +158,6 @@ fn moves_strays(plan: &Plan, request: &Request<'_>) -> bool {
     is_repair && request.options.changing.cut && plan.has(Kind::Stray)
 }
 
-// The lock is held, so that the look at the folder tells of a writer.
 fn survey_files<F: FileSystem>(
     rt: &HostRuntime,
     files: &mut F,
@@ -183,11 +183,19 @@ pub(crate) fn both_queues<F: FileSystem>(
 }
 
 fn plan_of(rt: &HostRuntime, queues: &BothQueues, request: &Request<'_>) -> Result<Plan> {
-    let folder = Folder::open(*rt, request.folder, &request.options)?;
+    let folder = look_at(rt, request)?;
     match plan_in(rt, &folder, queues, request)? {
         Some(plan) => Ok(plan),
         None => Err(anyhow!("a file of it was deleted meanwhile").context(request.folder)),
     }
+}
+
+// The folder of the change. A dry run has no lock: another program may have the log open.
+fn look_at(rt: &HostRuntime, request: &Request<'_>) -> Result<Folder> {
+    if request.options.changing.dry_run {
+        return Folder::open(*rt, request.folder, &request.options);
+    }
+    Folder::open_own(*rt, request.folder, &request.options)
 }
 
 // The files of a folder that is opened are known to be allowed.

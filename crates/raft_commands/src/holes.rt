@@ -7,8 +7,9 @@ use raft_console::{Output, Progress, Status, failure, note};
 use raft_inspect::Word;
 use raft_looks::Folder;
 
-/// Prints a line for each group whose entries have a hole: it, and the last index before the first
-/// one; none where a file is there no more. An opening that tolerates all damage reads the files so.
+/// Prints a line for each group whose entries have a hole: the group, and the last index before
+/// its first hole. It returns `None` if a file no longer exists. An opening that tolerates all
+/// damage reads the files so.
 pub(crate) fn print_holes(
     rt: &HostRuntime,
     folder: &Folder,
@@ -35,7 +36,7 @@ pub(crate) fn print_holes(
     }
 }
 
-// Each group with a hole, and the last index before it; none where a file is there no more.
+// Each group with a hole, and the last index before it; `None` if a file no longer exists.
 fn holes_in(
     rt: &HostRuntime,
     folder: &Folder,

@@ -1,6 +1,9 @@
-//! Files beside a log's, which keep what an opening takes out of it. None that stands is written over.
+//! Files beside a log's files, which keep the bytes that an opening takes out. No existing file is
+//! written over.
 
 use anyhow::{Result, anyhow};
+use raft_console::check_len;
+use std::fmt::Display;
 use std::fs::{self, File};
 use std::io::{self, ErrorKind, Write};
 
@@ -14,6 +17,9 @@ pub(crate) fn keep(rt: &HostRuntime, folder: &str, name: &str, bytes: &[u8]) -> 
 }
 
 fn keep_at(rt: &HostRuntime, place: &str, bytes: &[u8]) -> Result<()> {
+    if let Err(error) = check_len(rt, bytes.len() as u64) {
+        return Err(unkept(place, &error));
+    }
     let part = format!(in rt.alloc(); "{place}.part")?;
     match fill(rt, part.as_str(), place, bytes) {
         Ok(()) => Ok(()),
@@ -24,8 +30,8 @@ fn keep_at(rt: &HostRuntime, place: &str, bytes: &[u8]) -> Result<()> {
     }
 }
 
-fn unkept(place: &str, error: &io::Error) -> anyhow::Error {
-    anyhow!("{error}; `--no-keep` goes on without").context(anyhow!(
+fn unkept<E: Display>(place: &str, error: &E) -> anyhow::Error {
+    anyhow!("{error}; `--no-keep` continues without it").context(anyhow!(
         "what is cut off cannot be kept: {place}"
     ))
 }
@@ -44,7 +50,7 @@ pub(crate) fn free_name(rt: &HostRuntime, folder: &str, name: &str) -> Result<St
     Err(anyhow!("{folder}/{name}: no name is free"))
 }
 
-// The name itself, and then with a number behind it.
+// The name itself, and then with a number after it.
 fn turned(rt: &HostRuntime, name: &str, turn: u64) -> Result<String> {
     if turn == 1 {
         return Ok(String::from_str(rt.alloc(), name)?);

@@ -3,9 +3,9 @@
 use anyhow::{Error, Result};
 use raft_command_line::{Options, Range};
 use raft_console::{Output, bytes_of, failure, or_failure};
+use raft_contents::Engine;
 use raft_env::FileSystem;
 use raft_inspect::Word;
-use raft_log_engine::Engine;
 use raft_records::Fault;
 
 /// A range of keys in bytes.
@@ -51,7 +51,7 @@ fn bound_of(rt: &HostRuntime, key: Option<&str>, hex: bool) -> Result<Option<Vec
     }
 }
 
-/// What is shown of a key.
+/// The part of a key that is printed.
 #[derive(Clone, Copy)]
 enum Shown {
     /// The key and its value.
@@ -60,7 +60,7 @@ enum Shown {
     Lengths,
 }
 
-/// Prints the value at the key of a word, and says whether there is one.
+/// Prints the value at the key of a word. Returns whether there is one.
 pub(crate) fn get<F: FileSystem>(
     rt: &HostRuntime,
     engine: &Engine<F>,
@@ -174,7 +174,7 @@ impl Printer {
         }
     }
 
-    // Whether the scan goes on.
+    // Whether the scan continues.
     fn print(&mut self, key: &[u8], value: &[u8]) -> bool {
         self.left = self.left.saturating_sub(1);
         match self.add(key, value) {

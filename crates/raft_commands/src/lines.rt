@@ -1,20 +1,20 @@
 //! Keys and values, or entries, of a file of lines.
 
 use anyhow::{Result, anyhow};
-use raft_command_line::Request;
+use raft_command_line::{Options, Request};
 use raft_console::{
-    GroupValue, LineForm, Pair, Progress, Spelling, file_or_input, or_failure, read_entry_lines,
-    read_lines, read_values,
+    GroupValue, LineForm, Pair, Progress, Spelling, check_batch, file_or_input, or_failure,
+    read_entry_lines, read_lines, read_values,
 };
+use raft_contents::{Engine, LogBatch};
 use raft_env::FileSystem;
-use raft_log_engine::{Engine, LogBatch};
 use raft_records::Fault;
 use std::alloc::Global;
 
 /// A batch takes so many bytes of keys and values, or one pair that has more.
 const BATCH_BYTES: usize = 1024 * 1024;
 
-/// Values of entries of one group that follow one another, from an index on or behind the group's last entry.
+/// Values of consecutive entries of one group, from an index on or after the group's last entry.
 pub(crate) struct Run {
     pub group: u64,
     pub first: Option<u64>,
@@ -41,6 +41,7 @@ pub(crate) fn put_lines<F: FileSystem>(
     request: &Request<'_>,
 ) -> Result<()> {
     let pairs = pairs_in(rt, path, group, request)?;
+    check_pairs(rt, &pairs, &request.options)?;
     let batches = or_failure(batches_of(rt.alloc(), pairs), "the lines cannot be put")?;
     write_all(rt, engine, batches, request)?;
     if request.sync {
@@ -59,6 +60,27 @@ fn pairs_in(
     read_lines(rt.alloc(), &text, form_of(group, request))
 }
 
+// Fails if a batch of them makes a file too long.
+fn check_pairs(rt: &HostRuntime, pairs: &[Pair], options: &Options<'_>) -> Result<()> {
+    let mut longest = 0;
+    for (_, key, value) in pairs {
+        longest = key.len().saturating_add(value.len()).max(longest);
+    }
+    check_batch(rt, options, pairs.len(), longest)
+}
+
+/// Fails if a batch of the values of runs makes a file too long.
+pub(crate) fn check_runs(rt: &HostRuntime, runs: &[Run], options: &Options<'_>) -> Result<()> {
+    for run in runs {
+        let mut longest = 0;
+        for value in &run.values {
+            longest = value.len().max(longest);
+        }
+        check_batch(rt, options, run.values.len(), longest)?;
+    }
+    Ok(())
+}
+
 fn form_of(group: Option<u64>, request: &Request<'_>) -> LineForm {
     LineForm {
         spelling: Spelling::of(&request.options),
@@ -66,7 +88,7 @@ fn form_of(group: Option<u64>, request: &Request<'_>) -> LineForm {
     }
 }
 
-/// These runs with the values of a file of lines behind each group's last one.
+/// These runs, with the values of a file of lines after each group's last one.
 pub(crate) fn with_value_file(
     rt: &HostRuntime,
     path: &str,

@@ -11,17 +11,16 @@ use crate::{entries, keys, numbered};
 use anyhow::{Result, anyhow};
 use raft_command_line::{Look, Request};
 use raft_console::{Output, Progress, Status, note_made};
-use raft_contents::sum;
+use raft_contents::{Engine, sum};
 use raft_env::FileSystem;
 use raft_inspect::Cut;
-use raft_log_engine::Engine;
 use raft_looks::{Folder, ReservedFile, check};
 use raft_memory::MemoryFileSystem;
 use raft_records::LogQueue;
 use std::alloc::{AllocError, Global};
 use std::thread::Threads;
 
-/// How often a look begins again where files are dropped under it.
+/// How often a look begins again because files were dropped meanwhile.
 const TRIES: u64 = 20;
 
 /// What was read of a folder, which then is let go.
@@ -31,10 +30,10 @@ struct Reading {
     reserved: Total,
 }
 
-/// Prints what is looked for in the folder of the request, and changes nothing of it: its log files
-/// are read into memory, and opened there by threads of the handle. It fails where there is no
-/// folder, where a file can't be read, and where the log can't be opened. Where a writer drops a
-/// file under it, it begins again.
+/// Prints what the request looks for, and changes nothing in its folder: the log files are read
+/// into memory, and opened there by threads of the handle. It fails if the folder doesn't exist,
+/// if a file can't be read, or if the log can't be opened. If a writer drops a file meanwhile, it
+/// begins again.
 pub fn look<R: Threads + Sync>(
     rt: HostRuntime,
     threads: &R,
@@ -103,8 +102,8 @@ pub(crate) fn note_use(rt: &HostRuntime, folder: &Folder, request: &Request<'_>)
     note_made(rt, &request.options, text)
 }
 
-/// Tells of files that an opening passes over, or whose folder isn't read.
-pub(crate) fn note_unread(
+// Prints the files that an opening passes over, or whose folder isn't read.
+fn note_unread(
     rt: &HostRuntime,
     folder: &Folder,
     request: &Request<'_>,
@@ -113,13 +112,27 @@ pub(crate) fn note_unread(
     if request.options.quiet {
         return Ok(());
     }
-    match folder.unread(&request.options, progress)? {
-        Some(plan) => Ok(plan.tell(rt, &request.options)?),
-        None => Ok(()),
-    }
+    tell_unread(rt, folder, request, progress)?;
+    Ok(())
 }
 
-// All log files in memory; none where one is there no more. A writer is kept out no longer.
+/// The same, and returns what `check` ends with for it; with `--quiet` it prints nothing.
+pub(crate) fn tell_unread(
+    rt: &HostRuntime,
+    folder: &Folder,
+    request: &Request<'_>,
+    progress: &mut Progress,
+) -> Result<Status> {
+    let Some(plan) = folder.unread(&request.options, progress)? else {
+        return Ok(Status::Done);
+    };
+    if !request.options.quiet {
+        plan.tell(rt, &request.options)?;
+    }
+    Ok(plan.status())
+}
+
+// All log files in memory; `None` if one no longer exists. From here on a writer isn't kept out.
 fn read_all(
     rt: &HostRuntime,
     folder: Folder,
@@ -144,8 +157,8 @@ fn total_of(files: &[ReservedFile]) -> Total {
     total
 }
 
-// Says what of the files an opening leaves out, where it doesn't fail; what an earlier file left is
-// none of it.
+// Prints what an opening would leave out of the files if it succeeds, except bytes that an earlier
+// file left.
 fn note_cuts<F: FileSystem>(
     rt: &HostRuntime,
     folder: &Folder,
@@ -169,7 +182,7 @@ fn told_of(alloc: Global, cut: &Cut) -> Result<String, AllocError> {
     )
 }
 
-// What is found in files that are all in memory.
+// The result of a look at files that are all in memory.
 fn show<R: Threads + Sync>(
     rt: &HostRuntime,
     threads: &R,
@@ -207,7 +220,7 @@ fn show_found<R: Threads + Sync, F: FileSystem + Drop>(
     Ok(Status::Absent)
 }
 
-// Prints what an engine finds, and says whether it is there.
+// Prints the result of a look at an engine. Returns whether it found the thing.
 fn find<F: FileSystem>(
     rt: &HostRuntime,
     engine: &mut Engine<F>,
@@ -254,7 +267,7 @@ fn find_entries<F: FileSystem>(
             sum(rt.alloc(), engine, group, indexes, out)?;
             Ok(true)
         }
-        // Done before.
+        // The other looks are carried out before.
         _ => Ok(true),
     }
 }

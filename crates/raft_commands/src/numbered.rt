@@ -3,10 +3,10 @@
 use crate::changes::{Change, write};
 use anyhow::Result;
 use raft_command_line::{Load, Options};
-use raft_console::{Output, Progress, failure, note, print_bytes};
+use raft_console::{Output, Progress, check_batch, failure, note, print_bytes};
+use raft_contents::Engine;
 use raft_env::FileSystem;
 use raft_inspect::Word;
-use raft_log_engine::Engine;
 use raft_records::{Fault, FileSeq};
 use std::alloc::{AllocError, Global};
 use std::time::Instant;
@@ -21,6 +21,7 @@ pub(crate) fn load<F: FileSystem>(
     load: Load,
     options: &Options<'_>,
 ) -> Result<()> {
+    check_batch(rt, options, 1, load.size as usize)?;
     let start = Instant::now(rt)?;
     let mut progress = Progress::of(*rt, options)?;
     for number in 0..load.count {
@@ -82,8 +83,8 @@ fn report(rt: &HostRuntime, start: Instant, load: Load) -> Result<String> {
     )?)
 }
 
-/// Counts the keys that stand from 0 on, and those after the first that is missing or has another
-/// value; whether there are none of these.
+/// Counts the consecutive keys from 0 on, and those after the first that is missing or has another
+/// value. Returns whether there are none of the latter.
 pub(crate) fn verify<F: FileSystem>(
     rt: &HostRuntime,
     engine: &Engine<F>,

@@ -1,20 +1,20 @@
-//! Opens the log of files, and says of one that can't be opened where it is broken.
+//! Opens the log of files. If it can't be opened, says where it is broken.
 
 use crate::changed::ChangedFiles;
 use anyhow::{Result, anyhow};
 use raft_command_line::{Options, mode_name};
 use raft_config::{Config, RecoveryMode};
 use raft_console::{failure, note_made};
+use raft_contents::{Engine, Refused};
 use raft_env::FileSystem;
 use raft_inspect::{QueueFiles, inspect};
-use raft_log_engine::{Engine, Refused};
 use raft_records::{Fault, Fresh, IoKind, LogQueue};
 use std::alloc::{AllocError, Global};
 use std::thread::Threads;
 
-/// Opens the log, whose files are read by as many workers as the settings in force have threads; in
-/// a dry run as one in memory. Where the disk has no space for the header of a last file, which holds
-/// nothing, the log is opened without that file.
+/// Opens the log, whose files are read by as many workers as the settings in force have threads;
+/// in a dry run as one in memory. If the disk has no space for the header of a last file without
+/// records, the log is opened without that file.
 pub(crate) fn open<R: Threads + Sync, F: FileSystem + ChangedFiles + Drop>(
     rt: &HostRuntime,
     threads: &R,
@@ -56,7 +56,7 @@ fn is_full(fault: &Fault) -> bool {
     matches!(fault, Fault::Io(IoKind::NoSpace, _))
 }
 
-// What couldn't be opened; what the system refused is told.
+// The error of an opening, after the system's refusal is printed.
 fn told_refusal<F: FileSystem + ChangedFiles + Drop>(
     rt: &HostRuntime,
     refused: Refused<F>,
@@ -67,7 +67,7 @@ fn told_refusal<F: FileSystem + ChangedFiles + Drop>(
     refusal(rt.alloc(), refused, options)
 }
 
-// Deletes the last file of each queue that holds nothing, where another one stands before it, and tells
+// Deletes the last file of each queue if it holds nothing and an earlier one exists. Returns
 // whether there was one. A rotation that finds no space leaves such a file.
 fn delete_empty<F: FileSystem + ChangedFiles>(
     rt: &HostRuntime,
@@ -117,7 +117,7 @@ fn empty_last<F: FileSystem>(
     }
 }
 
-/// Opens a log in memory, which is looked at alone: no file is made ahead there.
+/// Opens a log in memory only for a look: no file is made ahead.
 pub(crate) fn open_image<R: Threads + Sync, F: FileSystem + Drop>(
     threads: &R,
     alloc: Global,
@@ -133,7 +133,7 @@ pub(crate) fn open_image<R: Threads + Sync, F: FileSystem + Drop>(
     }
 }
 
-/// Hands the files back; with `json` a refusal is told as an object.
+/// Returns the files. With `json` the system's refusal is printed as an object.
 pub(crate) fn close<F: FileSystem + ChangedFiles + Drop>(
     rt: &HostRuntime,
     engine: Engine<F>,
@@ -174,7 +174,7 @@ fn copy_of(config: &Config) -> Result<Config, AllocError> {
     }
 }
 
-// What couldn't be opened, and where it is broken.
+// The error of an opening, with the place of the damage.
 fn refusal<F: FileSystem + Drop>(
     alloc: Global,
     refused: Refused<F>,

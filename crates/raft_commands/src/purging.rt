@@ -1,20 +1,20 @@
-//! Purges a log, and tells what became of its files.
+//! Purges a log, and prints what happened to its files.
 
 use crate::changed::ChangedFiles;
 use crate::opening::{close, config, open};
 use crate::stored::{Stored, Total};
 use anyhow::Result;
 use raft_command_line::{Options, Purge};
-use raft_console::{Output, Progress, Status, failure, note_made, or_failure};
+use raft_console::{Output, Progress, Status, check_batch, failure, note_made, or_failure};
+use raft_contents::Engine;
 use raft_env::FileSystem;
 use raft_inspect::Word;
-use raft_log_engine::Engine;
 use raft_records::{Fault, FileSeq};
 use std::alloc::{AllocError, Global};
 use std::thread::Threads;
 
-/// Purges the log, and prints a line for each group that is to be compacted, how many log files were
-/// dropped, and how many reserved files are kept to be used as next ones.
+/// Purges the log. Prints a line for each group that should be compacted, the number of dropped
+/// log files, and the number of reserved files kept for reuse.
 pub(crate) fn purge<R: Threads + Sync, F: FileSystem + ChangedFiles + Drop>(
     rt: &HostRuntime,
     threads: &R,
@@ -24,6 +24,8 @@ pub(crate) fn purge<R: Threads + Sync, F: FileSystem + ChangedFiles + Drop>(
     out: &mut Output,
 ) -> Result<Status> {
     let before = find(rt.alloc(), &mut files, options)?;
+    // A record that is written again is no longer than the file that has it.
+    check_batch(rt, options, 0, before.longest() as usize)?;
     let left = purge_files(rt, threads, files, purge, options, out)?;
     tell_left(rt, left, purge, &before, options, out)
 }
@@ -155,7 +157,7 @@ fn purge_and_close<F: FileSystem + ChangedFiles + Drop>(
     }
 }
 
-// Tells why the engine refused it, if it did.
+// Prints why the engine refused the purge, if it did.
 fn carry_out<F: FileSystem>(
     alloc: Global,
     engine: &mut Engine<F>,
@@ -172,7 +174,7 @@ fn carry_out<F: FileSystem>(
     Ok(None)
 }
 
-// Purges, and answers the groups whose compaction is asked for.
+// Purges, and returns the groups that should be compacted.
 fn asked_by<F: FileSystem>(
     alloc: Global,
     engine: &mut Engine<F>,

@@ -7,13 +7,14 @@ use crate::taken::{Taken, give_back};
 use anyhow::Result;
 use raft_command_line::Request;
 use raft_console::{Output, Status};
+use raft_contents::Engine;
 use raft_env::FileSystem;
 use raft_inspect::Word;
-use raft_log_engine::Engine;
 use std::thread::Threads;
 
-/// Opens the log in the mode of the options, and prints what that took out of its files and where it
-/// is kept. Where the log can't be opened nothing is cut, told or kept.
+/// Opens the log in the mode of the options. Prints the bytes that the opening took out of the
+/// files, and the files that keep them. If the log can't be opened, nothing is cut, printed or
+/// kept.
 pub(crate) fn repair<R: Threads + Sync, F: FileSystem + ChangedFiles + Drop>(
     rt: &HostRuntime,
     threads: &R,
@@ -49,7 +50,7 @@ fn end<F: FileSystem + ChangedFiles + Drop>(
     Ok(Status::Done)
 }
 
-// Prints what was taken, or what was moved aside alone.
+// Prints what was taken out, or only the files that were moved aside.
 fn add_taken(taken: &[Taken], moved: bool, out: &mut Output) -> Result<()> {
     for each in taken {
         if moved && each.offset.is_some() {

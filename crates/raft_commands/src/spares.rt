@@ -35,8 +35,8 @@ impl Drop for Spares {
     }
 }
 
-/// Makes the reserved files that the opening wants, one after the other: tells before how many bytes
-/// that is, and meanwhile how far it is. Where no space is left the opening does without.
+/// Makes the reserved files that the opening wants, one after the other. Prints their size before,
+/// and the progress meanwhile. If no space is left, the opening has fewer.
 pub(crate) fn make_ahead<F: FileSystem + ChangedFiles>(
     rt: &HostRuntime,
     files: &mut F,
@@ -104,7 +104,7 @@ fn make_spill<F: FileSystem + ChangedFiles>(
     }
 }
 
-// Makes one more where there are so many, and tells whether there was space for it.
+// Makes one more file if fewer than wanted exist. Returns whether there was space for it.
 fn make_next<F: FileSystem>(
     alloc: Global,
     files: &mut F,
@@ -131,7 +131,7 @@ fn make_next<F: FileSystem>(
     Ok(made.len() > place)
 }
 
-// None where none is wanting.
+// `None` if no file is missing.
 fn wanted<F: FileSystem>(
     alloc: Global,
     files: &mut F,

@@ -1,4 +1,4 @@
-//! What a folder holds, in numbers.
+//! A folder's contents in numbers.
 
 use crate::guard::both_queues;
 use crate::keys::count;
@@ -7,9 +7,9 @@ use crate::stored::Total;
 use anyhow::Result;
 use raft_command_line::Options;
 use raft_console::{Output, Status, or_failure};
+use raft_contents::Engine;
 use raft_env::FileSystem;
 use raft_inspect::{Field, FileUsage, Lines, LogUsage, Outlook, QueueFiles, Word, measure};
-use raft_log_engine::Engine;
 use raft_looks::BothQueues;
 use raft_records::Fault;
 use std::alloc::Global;
@@ -46,8 +46,8 @@ struct Held {
     span: Option<(u64, u64)>,
 }
 
-/// Prints how much the log holds, what an opening would lose, what is kept to be used again, and a
-/// line for each group and each file; as objects, one of all.
+/// Prints how much the log holds, what an opening would lose, the files kept for reuse, and a line
+/// for each group and each file. As JSON all of it is one object.
 pub(crate) fn stat<R: Threads + Sync, F: FileSystem + Drop>(
     threads: &R,
     alloc: Global,
@@ -60,7 +60,7 @@ pub(crate) fn stat<R: Threads + Sync, F: FileSystem + Drop>(
     let sizes = or_failure(sizes, "the log cannot be measured")?;
     let held = held_in(threads, alloc, files, &sizes.usage, options)?;
     let added = add_all(alloc, &held, &sizes, reserved, options, &mut out.lines);
-    or_failure(added, "the log cannot be told")?;
+    or_failure(added, "the log cannot be counted")?;
     Ok(Status::Done)
 }
 

@@ -1,4 +1,4 @@
-//! The files of a log as they stand in its folders: log files, and those kept to be used again.
+//! The files in a log's folders: log files, and those kept for reuse.
 
 use raft_command_line::Options;
 use raft_dump::log_files;
@@ -26,7 +26,7 @@ impl Total {
     }
 }
 
-/// The log files that stand, each with its path and its bytes, and the reserved ones.
+/// The existing log files, each with its path and its length, and the reserved ones.
 pub(crate) struct Stored {
     log: Vec<(String, u64)>,
     pub reserved: Total,
@@ -65,7 +65,7 @@ impl Stored {
         files: &mut F,
         folder: &str,
     ) -> Result<(), Fault> {
-        // An opening makes it where it is missing.
+        // An opening makes it if it is missing.
         if !files.is_dir(folder) {
             return Ok(());
         }
@@ -106,7 +106,16 @@ impl Stored {
         (append, rewrite)
     }
 
-    /// Those of the log files that stand no more.
+    /// The length of the longest log file.
+    pub fn longest(&self) -> u64 {
+        let mut longest = 0;
+        for (_, len) in &self.log {
+            longest = longest.max(*len);
+        }
+        longest
+    }
+
+    /// Those of the log files that no longer exist.
     pub fn gone<F: FileSystem>(&self, files: &F) -> Total {
         let mut gone = Total::new();
         for (path, len) in &self.log {

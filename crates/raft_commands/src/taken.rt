@@ -1,4 +1,5 @@
-//! What an opening takes out of log files, and what becomes of it if the change then fails.
+//! Bytes that an opening takes out of log files, and what happens to them if the change then
+//! fails.
 
 use anyhow::Result;
 use raft_command_line::Request;
@@ -9,12 +10,13 @@ use std::{fs, io};
 /// What an opening takes out of a log file.
 pub(crate) struct Taken {
     pub path: String,
-    /// From where on bytes are cut off; none where the file is moved aside whole.
+    /// The offset from which bytes are cut off; `None` if the whole file is moved aside.
     pub offset: Option<u64>,
     pub len: u64,
-    /// Whether an earlier file left the bytes where this one stands.
+    /// Whether an earlier file of this place left the bytes.
     pub stale: bool,
-    /// The path of the file that keeps it, from the folder on; none where none is kept.
+    /// The path, relative to the folder, of the file that keeps the bytes; `None` if they aren't
+    /// kept.
     pub kept: Option<String>,
 }
 
@@ -31,7 +33,7 @@ impl Drop for Taken {
     }
 }
 
-/// Tells on standard error what an opening took out of log files.
+/// Prints on standard error what an opening took out of log files.
 pub(crate) fn note_taken(rt: &HostRuntime, request: &Request<'_>, taken: &[Taken]) -> Result<()> {
     for each in taken {
         note_made(rt, &request.options, note_of(rt.alloc(), each))?;
@@ -56,7 +58,8 @@ fn note_of(alloc: Global, taken: &Taken) -> Result<String, AllocError> {
     }
 }
 
-/// Where a change failed: deletes the files that keep what the log still has, and tells the others.
+/// After a failed change: deletes the files that keep bytes which the log still has, and prints
+/// the others.
 pub(crate) fn give_back(rt: &HostRuntime, request: &Request<'_>, taken: &[Taken]) -> Result<()> {
     if request.options.changing.dry_run {
         return Ok(());
@@ -86,7 +89,8 @@ fn note_of_copy(alloc: Global, taken: &Taken) -> Result<String, AllocError> {
     }
 }
 
-// Deletes the file that keeps bytes of a log file from a place on, if that has them; whether it did.
+// Deletes the file that keeps bytes of a log file from a place on, if that has them. Returns
+// whether it did.
 fn remove_copy(rt: &HostRuntime, folder: &str, path: &str, offset: u64, kept: &str) -> bool {
     match has_copied(rt, folder, path, offset, kept) {
         Ok(true) => remove(rt, folder, kept).is_ok(),
@@ -118,7 +122,7 @@ fn bytes_in(rt: &HostRuntime, folder: &str, name: &str) -> io::Result<Vec<u8>> {
     fs::read(rt, format!(in rt.alloc(); "{folder}/{name}")?.as_str())
 }
 
-/// Where a change failed: tells of files that were moved aside before.
+/// After a failed change: prints the files that were moved aside before.
 pub(crate) fn note_moved(rt: &HostRuntime, request: &Request<'_>, taken: &[Taken]) -> Result<()> {
     if request.options.changing.dry_run {
         return Ok(());

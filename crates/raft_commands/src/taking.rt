@@ -122,8 +122,8 @@ pub(crate) fn move_passed<F: FileSystem + ChangedFiles>(
     Ok(())
 }
 
-// What the names of these files end with once they are aside: `salvage` reads what was lost, and not
-// what a purge had dropped.
+// How the names of these files end once they are aside: `salvage` reads what was lost, and not what
+// a purge had dropped.
 fn ending_of(plan: &Plan, passed: &[LogFile]) -> &'static str {
     for item in &plan.items {
         if item.kind == Kind::LeftOver && has_path(passed, item.path.as_str()) {

@@ -1,4 +1,4 @@
-//! Opens a folder for a change, and waits for it where that is asked for.
+//! Opens a folder for a change, and waits for it if requested.
 
 use crate::opening::config;
 use anyhow::{Result, anyhow};
@@ -12,8 +12,8 @@ use std::time::Duration;
 /// How often it is tried again in a second.
 const TRIES: u64 = 10;
 
-/// The folder's files. It fails where the folder is open already, or looked at, for longer than the
-/// request has it wait.
+/// The folder's files. It fails if another program has the folder open, or looks at it, for longer
+/// than the request waits.
 pub(crate) fn open_folder(rt: HostRuntime, request: &Request<'_>) -> Result<DiskFileSystem> {
     let tries = request.options.changing.wait.saturating_mul(TRIES);
     for turn in 0..=tries {
@@ -41,7 +41,7 @@ fn unopened(rt: &HostRuntime, folder: &str, fault: &OpenFault) -> anyhow::Error 
     }
 }
 
-// Reserved files are read where the settings want such files alone.
+// Reserved files are read only if the settings want such files.
 fn open_once(rt: HostRuntime, request: &Request<'_>) -> Result<DiskFileSystem, OpenFault> {
     let (folder, spill) = (request.folder, request.options.spill);
     if config(rt.alloc(), &request.options)?.prefill_for_recycle {

@@ -4,7 +4,7 @@ use crate::changed::ChangedFiles;
 use crate::changes::{Change, write};
 use crate::entries::{append, compact, note_emptied};
 use crate::guard::guard;
-use crate::lines::{Run, put_lines, read_entry_file, with_value_file};
+use crate::lines::{Run, check_runs, put_lines, read_entry_file, with_value_file};
 use crate::numbered::load;
 use crate::opening::{close, open};
 use crate::purging::purge;
@@ -14,18 +14,17 @@ use crate::taken::{Taken, give_back, note_taken};
 use crate::waiting::open_folder;
 use anyhow::{Result, anyhow};
 use raft_command_line::{Request, Verb};
-use raft_console::{Output, Progress, Status, bytes_of, or_failure};
-use raft_contents::{Material, truncate};
+use raft_console::{Output, Progress, Status, bytes_of, check_batch, or_failure};
+use raft_contents::{Engine, Material, truncate};
 use raft_disk::DiskFileSystem;
 use raft_env::FileSystem;
-use raft_log_engine::Engine;
 use raft_looks::{Folder, told};
 use std::thread::Threads;
 
-/// Does what changes the log in the folder of the request. The folder is made where it is missing,
-/// and its lock is held meanwhile. Nothing is done where the opening would lose more than an
-/// unsynced tail explains and no word allows that; what it cuts off is told, and kept in files
-/// beside. It reads the files by threads of the handle. A dry run does it all in memory.
+/// Changes the log in the folder of the request. It makes the folder if it is missing, and holds
+/// its lock meanwhile. It does nothing if the opening would lose more than an unsynced tail and no
+/// word allows that. What the opening cuts off is printed, and kept in files beside. The opening
+/// reads the files by threads of the handle. A dry run does everything in memory.
 pub fn change<R: Threads + Sync>(
     rt: HostRuntime,
     threads: &R,
@@ -34,7 +33,7 @@ pub fn change<R: Threads + Sync>(
     change_by(rt, threads, request, &mut Material::Request)
 }
 
-/// The same, of a command that writes what it has read elsewhere.
+/// The same for a command that writes data from elsewhere.
 pub fn change_by<R: Threads + Sync>(
     rt: HostRuntime,
     threads: &R,
@@ -50,7 +49,7 @@ pub fn change_by<R: Threads + Sync>(
     };
     match &changed {
         Ok(status) => forget_spans(rt, request, *status)?,
-        // What can't be told hides no error.
+        // A note that can't be printed hides no error.
         Err(_) => {
             let _ = tell_refused(rt, request);
         }
@@ -58,7 +57,7 @@ pub fn change_by<R: Threads + Sync>(
     changed
 }
 
-// What `repair --cut` has accepted as lost is no longer missed: the next opening notes the files
+// What `repair --cut` has accepted as lost is no longer missed: the note then has the files
 // that exist.
 fn forget_spans(rt: HostRuntime, request: &Request<'_>, status: Status) -> Result<()> {
     let is_repair = matches!(&request.verb, Verb::Repair);
@@ -71,7 +70,7 @@ fn forget_spans(rt: HostRuntime, request: &Request<'_>, status: Status) -> Resul
     }
 }
 
-// What the system refuses of the log's own files, where a change failed.
+// The system's refusals for the log's own files after a failed change.
 fn tell_refused(rt: HostRuntime, request: &Request<'_>) -> Result<()> {
     let folder = Folder::open(rt, request.folder, &request.options)?;
     Ok(
@@ -116,7 +115,7 @@ fn change_files<R: Threads + Sync, F: FileSystem + ChangedFiles + Drop>(
     end(rt, request, &taken, changed, &mut out)
 }
 
-// Tells what was taken out of the files once the change is done, or gives it back.
+// Prints what was taken out of the files after the change, or gives it back if the change failed.
 fn end(
     rt: &HostRuntime,
     request: &Request<'_>,
@@ -126,7 +125,7 @@ fn end(
 ) -> Result<Status> {
     match changed {
         Ok(status) => {
-            // The plan was told before, so that a note that can't be printed hides nothing.
+            // The plan was printed before, so a note that can't be printed hides nothing.
             let _ = note_taken(rt, request, taken);
             out.print()?;
             Ok(status)
@@ -217,9 +216,7 @@ fn carry_out<F: FileSystem>(
             compact(engine, *group, *index, request.sync, out)?;
             note_emptied(rt, engine, *group, *index, &request.options)
         }
-        Verb::Truncate(group, index) => {
-            truncate(rt.alloc(), engine, *group, *index, request.sync, out)
-        }
+        Verb::Truncate(group, index) => truncate(rt, engine, *group, *index, request, out),
         // Done elsewhere.
         Verb::Repair
         | Verb::Purge(_)
@@ -255,6 +252,7 @@ fn append_all<F: FileSystem>(
     out: &mut Output,
 ) -> Result<()> {
     let runs = all_runs(rt, request)?;
+    check_runs(rt, &runs, &request.options)?;
     let tells_group = match &request.verb {
         Verb::EntryLines(group, _) => group.is_none(),
         Verb::Append(group, _, _, _) => group.is_none(),
@@ -286,6 +284,8 @@ fn put<F: FileSystem>(
 ) -> Result<()> {
     let key = bytes_of(rt, pair.0, request.options.hex)?;
     let value = bytes_of(rt, pair.1, request.options.hex)?;
+    let longest = key.len().saturating_add(value.len());
+    check_batch(rt, &request.options, 1, longest)?;
     let change = Change::Put(&key, &value);
     let written = write(rt.alloc(), engine, group, change, request.sync);
     or_failure(written, "the key cannot be put")
@@ -299,6 +299,7 @@ fn delete<F: FileSystem>(
     request: &Request<'_>,
 ) -> Result<()> {
     let key = bytes_of(rt, key, request.options.hex)?;
+    check_batch(rt, &request.options, 1, key.len())?;
     let change = Change::Delete(&key);
     let written = write(rt.alloc(), engine, group, change, request.sync);
     or_failure(written, "the key cannot be deleted")

@@ -1,12 +1,12 @@
-//! Bytes that a word of the command line stands for: its own, those of a file or of standard input.
+//! The bytes that a word of the command line means: its own, those of a file or of standard input.
 
 use anyhow::{Result, anyhow, bail};
 use raft_inspect::read_digits;
 use std::fs;
 use std::io::{Input, Read};
 
-/// The bytes that a word stands for: those of the file after `@`, those of standard input for `-`, else the word
-/// itself, or what its hexadecimal digits tell.
+/// The bytes that a word means: those of the file after `@`, those of standard input for `-`,
+/// otherwise the word itself or the bytes of its hexadecimal digits.
 pub fn bytes_of(rt: &HostRuntime, word: &str, hex: bool) -> Result<Vec<u8>> {
     if word == "-" {
         return input(rt);

@@ -12,7 +12,7 @@ mod telling;
 
 use anyhow::anyhow;
 pub use input::{bytes_of, file_or_input};
-pub use limits::check_file_limit;
+pub use limits::{batch_room, check_batch, check_file_limit, check_len};
 pub use line_input::{
     EntryLine, GroupValue, LineForm, Pair, Spelling, member, read_entry_lines, read_lines,
     read_object, read_values,
@@ -24,14 +24,15 @@ use raft_command_line::Options;
 pub use status::Status;
 use std::alloc::AllocError;
 pub use streams::take_closed_streams;
-pub use telling::tell;
+pub use telling::{print_error, tell};
 
-/// What couldn't be done, why, and what helps. What couldn't be done and why have room for 120 bytes each.
+/// An error: the failed action, its cause, and a remedy. The action and the cause have room for
+/// 120 bytes each.
 pub fn failure(what: &str, fault: &Fault) -> anyhow::Error {
     cause_of(fault).context(what)
 }
 
-/// What a call answers, or what couldn't be done by it, why, and what helps.
+/// The call's result, or an error with the failed action, its cause and a remedy.
 pub fn or_failure<T>(called: Result<T, Fault>, what: &str) -> anyhow::Result<T> {
     match called {
         Ok(value) => Ok(value),
@@ -42,10 +43,11 @@ pub fn or_failure<T>(called: Result<T, Fault>, what: &str) -> anyhow::Result<T> 
 fn cause_of(fault: &Fault) -> anyhow::Error {
     match fault {
         Fault::Io(IoKind::NoSpace, path) => anyhow!(
-            "{path}: no space is left: free a block or more; all that was answered stands"
+            "{path}: no space is left: free a block or more; everything that was confirmed is kept"
         ),
         Fault::TryAgain => anyhow!(
-            "no space is left, in two files: free a block or more; all that was answered stands"
+            "no space is left, in two files: free a block or more; everything that was confirmed \
+            is kept"
         ),
         Fault::Io(IoKind::NotFound, path) => anyhow!("{path}: the system finds no such file"),
         Fault::Io(IoKind::Other, path) => anyhow!("{path}: the system refused a call on it"),
@@ -54,7 +56,7 @@ fn cause_of(fault: &Fault) -> anyhow::Error {
     }
 }
 
-/// Tells something on standard error, where not all is quiet.
+/// Prints a note on standard error, unless the options ask for quiet.
 pub fn note(rt: &HostRuntime, options: &Options<'_>, text: &str) -> anyhow::Result<()> {
     if options.quiet {
         return Ok(());
@@ -62,7 +64,7 @@ pub fn note(rt: &HostRuntime, options: &Options<'_>, text: &str) -> anyhow::Resu
     tell(rt, options.json, "note", text)
 }
 
-/// Tells a text that was made for it, as `note`.
+/// Prints a text that was made for this note, as `note` does.
 pub fn note_made(
     rt: &HostRuntime,
     options: &Options<'_>,

@@ -19,7 +19,7 @@ pub type GroupValue = (u64, Vec<u8>);
 /// How bytes are spelled in lines.
 #[derive(Clone, Copy)]
 pub enum Spelling {
-    /// Words with a tab between two of them; `\x00` and the like stand for bytes.
+    /// Words with a tab between two of them; `\x00` and the like mean bytes.
     Text,
     /// The same in hexadecimal digits.
     Digits,
@@ -76,7 +76,8 @@ pub fn read_entry_lines(alloc: Global, text: &[u8], form: LineForm) -> Result<Ve
     Ok(entries)
 }
 
-/// The values of lines, one of each, as `read_lines`; if one group has all, an empty line is an empty value.
+/// The values of lines, one of each, as `read_lines`; if one group has all, an empty line is an empty
+/// value.
 pub fn read_values(alloc: Global, text: &[u8], form: LineForm) -> Result<Vec<GroupValue>> {
     let mut values = Vec::new(alloc);
     if text.is_empty() {
@@ -141,13 +142,13 @@ fn read_value(alloc: Global, line: &[u8], form: LineForm) -> Result<GroupValue> 
     Ok((group, read_word(alloc, line, form.spelling)?))
 }
 
-// The group of a line, and the words behind it.
+// The group of a line, and the words after it.
 fn take_group(line: &[u8], form: LineForm) -> Result<(u64, &[u8])> {
     if let Some(group) = form.group {
         return Ok((group, line));
     }
     let Some((group, rest)) = at_tab(line) else {
-        return Err(anyhow!("no tab behind a group"));
+        return Err(anyhow!("no tab after a group"));
     };
     match read_number(group) {
         Some(group) => Ok((group, rest)),
@@ -166,7 +167,7 @@ fn group_in(object: &Value, form: LineForm) -> Result<u64> {
     }
 }
 
-// What stands before the first tab and behind it.
+// The text before the first tab, and the text after it.
 fn at_tab(line: &[u8]) -> Option<(&[u8], &[u8])> {
     let tab = line.iter().position(|byte| *byte == b'\t')?;
     let (word, rest) = line.split_at(tab);

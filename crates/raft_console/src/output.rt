@@ -1,5 +1,6 @@
 //! What a command prints.
 
+use crate::limits::{OUTPUT, check_stream};
 use anyhow::{Result, anyhow};
 use raft_command_line::Options;
 use raft_inspect::{Field, Lines, Word};
@@ -12,7 +13,7 @@ const FULL: usize = 64 * 1024;
 pub struct Output {
     rt: HostRuntime,
     pub lines: Lines,
-    /// A value is printed as its bytes alone.
+    /// A value is printed as its bytes only.
     raw: bool,
 }
 
@@ -42,7 +43,7 @@ impl Output {
         self.print_if_full()
     }
 
-    /// Prints a value: as its bytes alone, where that is asked for, else on a line.
+    /// Prints a value: as its bytes only if requested, otherwise on a line.
     pub fn value(&mut self, value: &[u8]) -> Result<()> {
         if self.raw {
             return print_bytes(&self.rt, value);
@@ -63,7 +64,7 @@ impl Output {
         self.print()
     }
 
-    /// Prints what was added.
+    /// Prints the lines that were added.
     pub fn print(&mut self) -> Result<()> {
         print_bytes(&self.rt, self.lines.as_bytes())?;
         self.lines.clear();
@@ -73,6 +74,9 @@ impl Output {
 
 /// Prints these bytes.
 pub fn print_bytes(rt: &HostRuntime, bytes: &[u8]) -> Result<()> {
+    if let Err(error) = check_stream(rt, OUTPUT, bytes.len()) {
+        return Err(error.context("standard output"));
+    }
     match io::writer(rt).write_all(bytes) {
         Ok(()) => Ok(()),
         Err(e) => Err(anyhow!("standard output: {e}")),

@@ -1,4 +1,4 @@
-//! Progress on standard error, of what takes over a second.
+//! Progress on standard error, for work that takes over a second.
 
 use crate::telling::tell;
 use anyhow::Result;
@@ -6,12 +6,13 @@ use raft_command_line::Options;
 use std::alloc::AllocError;
 use std::time::Instant;
 
-/// Tells once a second how far something is.
+/// Prints the progress once a second.
 #[derive(Drop)]
 pub struct Progress {
     rt: HostRuntime,
     start: Instant,
-    /// After how many seconds it is told next; never, where all is quiet.
+    /// The number of seconds after which progress is printed next; `None` if the options ask for
+    /// quiet.
     next: Option<u64>,
     /// Each line is an object.
     json: bool,
@@ -22,7 +23,7 @@ impl Progress {
         Progress::start(rt, quiet, false)
     }
 
-    /// As the options ask for it.
+    /// As the options request it.
     pub fn of(rt: HostRuntime, options: &Options<'_>) -> Result<Progress> {
         Progress::start(rt, options.quiet, options.json)
     }
@@ -38,7 +39,7 @@ impl Progress {
         })
     }
 
-    /// Tells that so much of a whole is done, where a second went by.
+    /// Prints how much of a whole is done, if a second has passed.
     pub fn at(&mut self, what: &str, done: u64, whole: u64) -> Result<()> {
         if !self.is_due()? {
             return Ok(());
@@ -46,7 +47,7 @@ impl Progress {
         self.tell(format!(in self.rt.alloc(); "{what}: {done} of {whole}"))
     }
 
-    /// Tells how many of a file's bytes are read, where a second went by.
+    /// Prints how many of a file's bytes are read, if a second has passed.
     pub fn within(&mut self, path: &str, done: u64, whole: u64) -> Result<()> {
         if !self.is_due()? {
             return Ok(());
@@ -54,7 +55,7 @@ impl Progress {
         self.tell(format!(in self.rt.alloc(); "{path}: {done} of {whole} bytes read"))
     }
 
-    /// Tells what is begun, where a second went by.
+    /// Prints the step that begins, if a second has passed.
     pub fn begin(&mut self, what: &str) -> Result<()> {
         if !self.is_due()? {
             return Ok(());
@@ -62,7 +63,7 @@ impl Progress {
         tell(&self.rt, self.json, "progress", what)
     }
 
-    // Whether a second went by since something was told.
+    // Whether a second has passed since the last line.
     fn is_due(&mut self) -> Result<bool> {
         let Some(next) = self.next else {
             return Ok(false);

@@ -1,14 +1,15 @@
-//! The standard streams, where the program began without some of them.
+//! The standard streams, if the program began without some of them.
 
 use anyhow::{Result, bail};
 use std::fs::OpenOptions;
 use std::os::fd::{AsFd, IntoRawFd};
 
-/// A file that stands for a stream that is closed.
+/// A file in place of a closed stream.
 const NULL: &str = "/dev/null";
 
-/// Takes the descriptors 0, 1 and 2 where they are closed, before a file of the log gets one of them and stands for
-/// that stream. Then reading from the first fails, as printing does, and what is told on the third is lost.
+/// Takes the descriptors 0, 1 and 2 if they are closed, before a file of the log gets one of them
+/// and is used as that stream. Then reading from the first fails, as printing does, and text for
+/// the third is lost.
 pub fn take_closed_streams(rt: &HostRuntime) -> Result<()> {
     let mut reading = OpenOptions::new();
     reading.read(true);

@@ -1,5 +1,6 @@
 //! Lines on standard error.
 
+use crate::limits::{ERRORS, check_stream};
 use anyhow::Result;
 use raft_command_line::printable;
 use raft_inspect::{Lines, Word};
@@ -12,10 +13,14 @@ pub fn tell(rt: &HostRuntime, json: bool, name: &'static str, text: &str) -> Res
         let mut lines = Lines::new(rt.alloc(), true, false);
         lines.line(&[(name, Word::Text(text))])?;
         let line = str::from_utf8(lines.as_bytes())?;
-        eprint!(rt; "{line}")?;
-        return Ok(());
+        return print_error(rt, line);
     }
     let line = printable(rt.alloc(), text)?;
-    eprintln!(rt; "raftctl: {line}")?;
-    Ok(())
+    print_error(rt, format!(in rt.alloc(); "raftctl: {line}\n")?.as_str())
+}
+
+/// Prints lines on standard error.
+pub fn print_error(rt: &HostRuntime, lines: &str) -> Result<()> {
+    check_stream(rt, ERRORS, lines.len())?;
+    Ok(eprint!(rt; "{lines}")?)
 }

@@ -1,8 +1,8 @@
-//! Items that are written to a log in batches, whatever stands there already.
+//! Items that are written to a log in batches, whatever the log already holds.
 
-use anyhow::Result;
-use raft_command_line::{Request, Verb};
-use raft_console::{failure, or_failure, tell};
+use anyhow::{Result, anyhow};
+use raft_command_line::{Options, Request, Verb};
+use raft_console::{batch_room, failure, or_failure, tell};
 use raft_env::FileSystem;
 use raft_log_engine::{Engine, LogBatch};
 use raft_once::{NUMBER_KEY, kept_number};
@@ -15,14 +15,16 @@ use std::mem;
 const BATCH_BYTES: usize = 1024 * 1024;
 
 /// Items that are to be written. Entries that don't touch those of their group replace them, as
-/// they do where an opening reads them.
+/// they do when an opening reads them.
 pub struct Filling {
     alloc: Global,
+    /// How many bytes a batch may have, if a file may not become too long.
+    room: Option<u64>,
     batch: LogBatch,
     /// How many bytes the batch has, about.
     bytes: usize,
-    /// The first and the last index of groups, where the batch has changed them; nothing for a
-    /// group without entries.
+    /// The first and the last index of groups that the batch has changed; `None` for a group
+    /// without entries.
     spans: BTreeMap<u64, Option<(u64, u64)>>,
     /// Entries of one group that follow one another.
     group: u64,
@@ -40,6 +42,7 @@ impl Drop for Filling {
     fn drop(self) {
         let Filling {
             alloc: _,
+            room: _,
             batch: _batch,
             bytes: _,
             spans: _spans,
@@ -54,9 +57,11 @@ impl Drop for Filling {
 }
 
 impl Filling {
-    pub fn new(alloc: Global) -> Filling {
+    pub fn new(rt: &HostRuntime, options: &Options<'_>) -> Filling {
+        let alloc = rt.alloc();
         Filling {
             alloc,
+            room: batch_room(rt, options),
             batch: LogBatch::new(alloc),
             bytes: 0,
             spans: BTreeMap::new(alloc),
@@ -205,7 +210,7 @@ impl Filling {
         self.batch.add_raw_entries(group, indexes, values)
     }
 
-    /// Writes what was added, where that is much.
+    /// Writes the added items if they are many.
     pub fn write_if_full<F: FileSystem>(&mut self, engine: &mut Engine<F>) -> Result<()> {
         if self.bytes < BATCH_BYTES {
             return Ok(());
@@ -213,8 +218,14 @@ impl Filling {
         self.write(engine)
     }
 
-    /// Writes what was added as one batch.
+    /// Writes the added items as one batch.
     pub fn write<F: FileSystem>(&mut self, engine: &mut Engine<F>) -> Result<()> {
+        if self.room.is_some_and(|room| room < self.bytes as u64) {
+            return Err(anyhow!("raise `ulimit -f`").context(format_args!(
+                "a batch of {} bytes makes a log file longer than a file may be",
+                self.bytes
+            )));
+        }
         or_failure(self.end_entries(engine), "the batch cannot be built")?;
         if let Err(fault) = engine.write(&mut self.batch, false) {
             return Err(failure("the batch cannot be written", &fault));
@@ -225,8 +236,7 @@ impl Filling {
         Ok(())
     }
 
-    /// Writes all that is left, and then the groups' numbers where they are greater than those that
-    /// stand.
+    /// Writes all remaining items, and then the groups' numbers that are greater than the log's.
     pub fn finish<F: FileSystem>(&mut self, engine: &mut Engine<F>, sync: bool) -> Result<()> {
         self.write(engine)?;
         for _ in 0..self.numbers.len() {

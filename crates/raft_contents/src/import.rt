@@ -3,7 +3,7 @@
 use crate::filling::Filling;
 use crate::line_items::{Content, LineItem, Place, add_mark};
 use crate::line_source::LineSource;
-use crate::replacing::{Replacing, has_entries};
+use crate::replacing::{Replacing, has_groups};
 use anyhow::{Result, anyhow};
 use raft_command_line::{Import, Options, Request};
 use raft_console::{Output, Progress, Status, note_made, or_failure};
@@ -12,9 +12,8 @@ use raft_inspect::{Filter, ItemKind, Word};
 use raft_log_engine::Engine;
 use raft_records::Fault;
 use raft_whole_records::Marks;
-use std::alloc::AllocError;
 
-/// After how many lines it is told how many were checked, if a second went by.
+/// The number of lines after which progress is printed, if a second has passed.
 const COUNTED: u64 = 1024;
 
 /// Lines whose items are written, and which of them.
@@ -39,9 +38,9 @@ impl Drop for LineImport {
 }
 
 impl LineImport {
-    /// Checks the lines of a file that `dump --json` printed, or of standard input. It fails at the
-    /// first line that cannot be read, and names it. Of a file one line is in memory at a time, of
-    /// standard input all bytes.
+    /// Checks the lines of a file that `dump --json` printed, or of standard input. It fails at
+    /// the first line that cannot be read, and names it. One line of a file is in memory at a
+    /// time; of standard input all bytes are.
     pub fn read(rt: &HostRuntime, import: Import<'_>, options: &Options<'_>) -> Result<LineImport> {
         let path = import.file.unwrap_or("-");
         let mut read = LineImport {
@@ -75,8 +74,9 @@ impl LineImport {
     }
 
     /// Writes the batches of the lines, one for each record, in their order, and prints how many
-    /// items they have. If a line says that a file could not be read further, that is told, and the
-    /// status is 4. If entries would be replaced that may not be, nothing is written.
+    /// items they have. If a line says that a file could not be read further, that is printed, and
+    /// the status is 4. If anything would be replaced or removed that may not be, nothing is
+    /// written.
     pub fn write<F: FileSystem>(
         &mut self,
         rt: &HostRuntime,
@@ -87,7 +87,7 @@ impl LineImport {
         if !self.find_replaced(rt, engine)?.judge(rt, request, out)? {
             return Ok(Status::Refused);
         }
-        let mut filling = Filling::new(rt.alloc());
+        let mut filling = Filling::new(rt, &request.options);
         match self.write_all(rt, engine, request, &mut filling) {
             Ok(unread) => {
                 out.named(&[("imported", Word::Number(filling.items))])?;
@@ -104,14 +104,14 @@ impl LineImport {
         }
     }
 
-    // Which entries of the log the lines replace. A log without entries needs no look at them.
+    // What of the log the lines replace or remove. A log without groups needs no look at them.
     fn find_replaced<F: FileSystem>(
         &self,
         rt: &HostRuntime,
         engine: &Engine<F>,
     ) -> Result<Replacing> {
         let mut replacing = Replacing::new(rt.alloc());
-        if !or_failure(has_entries(engine), "the log cannot be read")? {
+        if !or_failure(has_groups(engine), "the log cannot be read")? {
             return Ok(replacing);
         }
         let mut state = Reading::BEGIN;
@@ -122,7 +122,7 @@ impl LineImport {
             };
             state.move_to(&item, &self.marks);
             if state.takes(&item, self.filter) {
-                note_change(engine, &item, &mut replacing)?;
+                or_failure(replacing.add_item(engine, &item), "the log cannot be read")?;
             }
         }
         Ok(replacing)
@@ -176,24 +176,9 @@ impl LineImport {
 
 fn note_unread(rt: &HostRuntime, request: &Request<'_>, why: &str) -> Result<()> {
     let text = format!(in rt.alloc();
-        "the dump ends before the end of a file: {why}; `salvage` reads on behind it"
+        "the dump ends before the end of a file: {why}; `salvage` reads on after it"
     );
     note_made(rt, &request.options, text)
-}
-
-fn note_change<F: FileSystem>(
-    engine: &Engine<F>,
-    item: &LineItem,
-    replacing: &mut Replacing,
-) -> Result<(), AllocError> {
-    let group = item.group;
-    match &item.content {
-        Content::Entry(index, _) => replacing.held(engine, group)?.add(*index, *index),
-        Content::Compact(index) => replacing.held(engine, group)?.compact(*index),
-        Content::Clean => replacing.held(engine, group)?.clean(),
-        _ => {}
-    }
-    Ok(())
 }
 
 /// Which items an import writes.
@@ -206,7 +191,7 @@ pub fn filter_of(import: Import<'_>) -> Filter {
     }
 }
 
-/// Where the lines are read.
+/// The source of the lines.
 #[derive(Clone, Copy)]
 struct Reading {
     /// The record of the last line.

@@ -3,6 +3,8 @@
 #![tactic(auto)]
 
 mod filling;
+mod held;
+mod held_keys;
 mod import;
 mod line_items;
 mod line_source;
@@ -14,6 +16,7 @@ mod truncating;
 
 pub use import::{LineImport, filter_of};
 pub use material::Material;
+pub use raft_log_engine::{Engine, LogBatch, Refused};
 pub use summing::sum;
 pub use tables::TableImport;
 pub use truncating::truncate;

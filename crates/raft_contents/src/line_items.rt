@@ -7,7 +7,7 @@ use raft_whole_records::{Marks, is_mark_key, mark_in};
 use serde_json::Value;
 use std::alloc::{AllocError, Global};
 
-/// Where the record of an item stood: the queue, the file and the offset.
+/// The place of an item's record: the queue, the file and the offset.
 #[derive(Clone, Copy, PartialEq, Eq)]
 pub(crate) struct Place {
     pub is_rewrite: bool,
@@ -32,7 +32,7 @@ pub(crate) enum Content {
 /// The item of one line.
 #[derive(Drop)]
 pub(crate) struct LineItem {
-    /// None of a line that tells no record.
+    /// `None` for a line that names no record.
     pub place: Option<Place>,
     pub group: u64,
     pub content: Content,

@@ -7,7 +7,7 @@ use std::alloc::Global;
 use std::fs::{self, File};
 use std::io::{BufRead, BufReader};
 
-/// Where lines are read from.
+/// The source of lines.
 pub(crate) enum LineSource {
     /// A file, of which one line is in memory at a time.
     File(String),

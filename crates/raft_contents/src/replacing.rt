@@ -1,111 +1,48 @@
-//! Which entries of a log an import replaces: found before it writes anything.
+//! What of a log an import replaces or removes: found before it writes anything.
 
+use crate::held::Held;
+use crate::line_items::{Content, LineItem};
 use anyhow::Result;
 use raft_command_line::{Request, Verb};
 use raft_console::{Output, tell};
 use raft_env::FileSystem;
-use raft_inspect::Word;
 use raft_log_engine::Engine;
 use raft_records::Fault;
 use std::alloc::{AllocError, Global};
 use std::collections::BTreeMap;
 
-/// The first and the last index of entries.
-type Span = (u64, u64);
-
-/// The entries of a group in the middle of an import.
-#[derive(Clone, Copy)]
-pub(crate) struct Held {
-    /// All of them.
-    all: Option<Span>,
-    /// Those that the log had before and that are still there.
-    own: Option<Span>,
-    /// Those that the log had before and that are replaced.
-    replaced: Option<Span>,
-}
-
-impl Held {
-    /// Adds entries that follow one another. They replace those from their first index on, or all
-    /// if they do not touch them.
-    pub fn add(&mut self, first: u64, last: u64) {
-        match self.all {
-            Some((begin, end)) if begin <= first && first <= end.saturating_add(1) => {
-                self.replace_from(first);
-                self.all = Some((begin, last));
-            }
-            _ => {
-                self.replace_from(0);
-                self.all = Some((first, last));
-            }
-        }
-    }
-
-    fn replace_from(&mut self, index: u64) {
-        let Some((first, last)) = self.own else {
-            return;
-        };
-        if last < index {
-            return;
-        }
-        let from = first.max(index);
-        let to = match self.replaced {
-            Some((_, to)) => to,
-            None => last,
-        };
-        self.replaced = Some((from, to));
-        self.own = (first < from).then_some((first, from.saturating_sub(1)));
-    }
-
-    /// Drops the entries below an index, as the import says: they are not replaced.
-    pub fn compact(&mut self, index: u64) {
-        self.all = without_below(self.all, index);
-        self.own = without_below(self.own, index);
-    }
-
-    /// Drops all entries, in the same way.
-    pub fn clean(&mut self) {
-        self.all = None;
-        self.own = None;
-    }
-}
-
-fn without_below(span: Option<Span>, index: u64) -> Option<Span> {
-    let (first, last) = span?;
-    (index <= last).then_some((first.max(index), last))
-}
-
 /// The groups that an import changes.
 pub(crate) struct Replacing {
+    alloc: Global,
     groups: BTreeMap<u64, Held>,
 }
 
 // One call in a proof that drops it.
 impl Drop for Replacing {
     fn drop(self) {
-        let Replacing { groups: _groups } = self;
+        let Replacing {
+            alloc: _,
+            groups: _groups,
+        } = self;
     }
 }
 
 impl Replacing {
     pub fn new(alloc: Global) -> Replacing {
         Replacing {
+            alloc,
             groups: BTreeMap::new(alloc),
         }
     }
 
-    /// A group, at first as the log has it.
-    pub fn held<F: FileSystem>(
+    // A group, at first as the log has it.
+    fn held<F: FileSystem>(
         &mut self,
         engine: &Engine<F>,
         group: u64,
     ) -> Result<&mut Held, AllocError> {
         if !self.groups.contains_key(&group) {
-            let own = span_of(engine, group);
-            let held = Held {
-                all: own,
-                own,
-                replaced: None,
-            };
+            let held = Held::of(self.alloc, engine, group);
             self.groups.insert(group, held)?;
         }
         match self.groups.get_mut(&group) {
@@ -114,41 +51,106 @@ impl Replacing {
         }
     }
 
-    /// Prints a line for each group of which entries are replaced, and returns whether the import
-    /// may do so.
+    /// Adds an item that is written.
+    pub fn add_item<F: FileSystem>(
+        &mut self,
+        engine: &Engine<F>,
+        item: &LineItem,
+    ) -> Result<(), Fault> {
+        let group = item.group;
+        match &item.content {
+            Content::Entry(index, _) => self.add_entries(engine, group, *index, *index)?,
+            Content::Compact(index) => self.held(engine, group)?.compact(*index),
+            Content::Clean => {
+                let keys = count_keys(engine, group)?;
+                self.held(engine, group)?.clean(keys);
+            }
+            Content::Put(key, value) => self.put(engine, group, key, value)?,
+            Content::Delete(key) => self.delete(engine, group, key)?,
+            Content::Mark(_) | Content::Unread(_) => {}
+        }
+        Ok(())
+    }
+
+    /// Adds entries that follow one another.
+    pub fn add_entries<F: FileSystem>(
+        &mut self,
+        engine: &Engine<F>,
+        group: u64,
+        first: u64,
+        last: u64,
+    ) -> Result<(), AllocError> {
+        self.held(engine, group)?.add(first, last);
+        Ok(())
+    }
+
+    /// Adds a key and its value.
+    pub fn put<F: FileSystem>(
+        &mut self,
+        engine: &Engine<F>,
+        group: u64,
+        key: &[u8],
+        value: &[u8],
+    ) -> Result<(), Fault> {
+        let own = engine.get(group, key)?;
+        let alloc = self.alloc;
+        self.held(engine, group)?.keys.put(alloc, key, own, value)
+    }
+
+    fn delete<F: FileSystem>(
+        &mut self,
+        engine: &Engine<F>,
+        group: u64,
+        key: &[u8],
+    ) -> Result<(), Fault> {
+        if engine.get(group, key)?.is_none() {
+            return Ok(());
+        }
+        let alloc = self.alloc;
+        self.held(engine, group)?.keys.delete(alloc, key)
+    }
+
+    /// Prints the replaced and the removed parts of each group. Returns whether the import may
+    /// continue.
     pub fn judge(&self, rt: &HostRuntime, request: &Request<'_>, out: &mut Output) -> Result<bool> {
         if !self.print(out)? || may_replace(request) {
             return Ok(true);
         }
         out.print()?;
         let text = format!(in rt.alloc();
-            "{}: nothing was written, since entries of the log would be replaced: `--replace` \
-            allows it",
+            "{}: nothing was written, since what the log has would be replaced or removed: \
+            `--replace` allows it",
             request.folder
         )?;
         tell(rt, request.options.json, "error", text.as_str())?;
         Ok(false)
     }
 
-    // Whether entries are replaced.
+    // Whether anything is replaced or removed.
     fn print(&self, out: &mut Output) -> Result<bool> {
         let mut is_any = false;
         for (group, held) in self.groups.iter() {
-            if let Some((first, last)) = held.replaced {
+            if held.print(*group, out)? {
                 is_any = true;
-                out.named(&[
-                    ("replaced", Word::Number(*group)),
-                    ("first", Word::Number(first)),
-                    ("last", Word::Number(last)),
-                ])?;
             }
         }
         Ok(is_any)
     }
 }
 
-fn span_of<F: FileSystem>(engine: &Engine<F>, group: u64) -> Option<Span> {
-    Some((engine.first_index(group)?, engine.last_index(group)?))
+fn count_keys<F: FileSystem>(engine: &Engine<F>, group: u64) -> Result<u64, Fault> {
+    let mut count = 0u64;
+    engine.scan_raw_messages(
+        group,
+        None,
+        None,
+        false,
+        &mut |_: &[u8], _: &[u8]| {
+            count = count.saturating_add(1);
+            true
+        },
+    )?;
+    Ok(count)
 }
 
 fn may_replace(request: &Request<'_>) -> bool {
@@ -158,12 +160,7 @@ fn may_replace(request: &Request<'_>) -> bool {
     }
 }
 
-/// Whether a log has an entry, so that an import may replace it.
-pub(crate) fn has_entries<F: FileSystem>(engine: &Engine<F>) -> Result<bool, Fault> {
-    for group in engine.raft_groups()? {
-        if engine.last_index(group).is_some() {
-            return Ok(true);
-        }
-    }
-    Ok(false)
+/// Whether a log has anything that an import may replace or remove.
+pub(crate) fn has_groups<F: FileSystem>(engine: &Engine<F>) -> Result<bool, Fault> {
+    Ok(!engine.raft_groups()?.is_empty())
 }

@@ -18,9 +18,9 @@ struct Summed {
     sum: [u8; 32],
 }
 
-/// Prints a line for each group that has entries or keys: how many, and their checksum; and one for
-/// all groups. With a group it prints that one alone, and with indexes the checksum of its entries
-/// between them.
+/// Prints a line for each group that has entries or keys: how many, and their checksum; and one
+/// for all groups. With a group it prints only that one, and with indexes the checksum of its
+/// entries between them.
 pub fn sum<F: FileSystem>(
     alloc: Global,
     engine: &mut Engine<F>,

@@ -20,7 +20,7 @@ pub struct TableImport<'a> {
 }
 
 impl TableImport<'_> {
-    /// Writes of each group the entries behind its last gap, and its keys. If entries would be
+    /// Writes for each group the entries after its last gap, and its keys. If anything would be
     /// replaced that may not be, nothing is written.
     pub fn write<F: FileSystem>(
         &self,
@@ -32,7 +32,7 @@ impl TableImport<'_> {
         if !self.find_replaced(rt, engine)?.judge(rt, request, out)? {
             return Ok(Status::Refused);
         }
-        let mut filling = Filling::new(rt.alloc());
+        let mut filling = Filling::new(rt, &request.options);
         match self.write_all(rt, engine, request, &mut filling) {
             Ok(()) => Ok(self.status),
             Err(error) => {
@@ -42,7 +42,7 @@ impl TableImport<'_> {
         }
     }
 
-    // Which entries of the log those of the groups replace.
+    // What of the log the groups replace.
     fn find_replaced<F: FileSystem>(
         &self,
         rt: &HostRuntime,
@@ -50,15 +50,32 @@ impl TableImport<'_> {
     ) -> Result<Replacing> {
         let mut replacing = Replacing::new(rt.alloc());
         for (number, group) in self.tables.groups.iter() {
-            if !self.filter.takes(*number, ItemKind::Entry, None) {
-                continue;
-            }
-            if let Some(run) = group.runs.last() {
-                let last = run.end().saturating_sub(1);
-                replacing.held(engine, *number)?.add(run.first, last);
-            }
+            let added = self.add_replaced(engine, *number, group, &mut replacing);
+            or_failure(added, "the log cannot be read")?;
         }
         Ok(replacing)
+    }
+
+    fn add_replaced<F: FileSystem>(
+        &self,
+        engine: &Engine<F>,
+        number: u64,
+        group: &Group,
+        replacing: &mut Replacing,
+    ) -> Result<(), Fault> {
+        if let (Some(run), true) = (
+            group.runs.last(),
+            self.filter.takes(number, ItemKind::Entry, None),
+        ) {
+            let last = run.end().saturating_sub(1);
+            replacing.add_entries(engine, number, run.first, last)?;
+        }
+        if self.filter.takes(number, ItemKind::Put, None) {
+            for (key, kept) in group.keys.iter() {
+                replacing.put(engine, number, key, &kept.value)?;
+            }
+        }
+        Ok(())
     }
 
     fn write_all<F: FileSystem>(

@@ -67,7 +67,7 @@ taken signature bytes at p e =
     same_len false x y e = ap (λ (z : Batch × ℕ). z.1) (same_some e)
 
 -- the items of one record, moved
-moved_items : (from to at place : ℕ) (items : List Item) → to + (at - from) ≡ place → moved from to (items_at at items) ≡ items_at place items
+pub moved_items : (from to at place : ℕ) (items : List Item) → to + (at - from) ≡ place → moved from to (items_at at items) ≡ items_at place items
 moved_items from to at place [] e = refl
 moved_items from to at place (i ∷ items) e =
     ap (λ (n : ℕ). record { offset = n; what = Ok i } ∷ moved from to (items_at at items)) e

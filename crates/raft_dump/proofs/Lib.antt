@@ -7,4 +7,5 @@ pub mod ItemLemmas
 pub mod ItemStepLemmas
 pub mod JoinLemmas
 pub mod PartLemmas
+pub mod ReadLemmas
 pub mod StaleLemmas

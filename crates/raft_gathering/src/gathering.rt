@@ -8,13 +8,15 @@ use raft_command_line::Options;
 use raft_console::{Progress, or_failure};
 use raft_files::LogFileFormat;
 use raft_records::{Fault, FileId, LogQueue, Version};
-use raft_whole_records::{FileSigns, Found, Gap, Marks, RecordScanner, WholeRecord, mark_of};
+use raft_whole_records::{
+    FileSigns, Found, Gap, Marks, RecordScanner, Unread, WholeRecord, mark_of,
+};
 use std::alloc::Global;
 
 /// Records that are read into tables.
 pub struct Gathering {
     alloc: Global,
-    /// Whether records are taken that an earlier use of a file left behind.
+    /// Whether records are taken that an earlier use of a file left.
     stale: bool,
     marks: Marks,
     progress: Progress,
@@ -42,6 +44,8 @@ struct Bytes<'a> {
     source: &'a Source,
     bytes: &'a [u8],
     signs: FileSigns,
+    /// The header; none if it can't be read.
+    format: Option<LogFileFormat>,
     /// Whether it is the last file of its queue.
     is_last: bool,
 }
@@ -97,17 +101,29 @@ fn has_log(sources: &[Source], id: FileId) -> bool {
     false
 }
 
-// Whether a log file is the last one of its queue.
-fn is_last_log(source: &Source, next: Option<&Source>) -> bool {
-    let is_end = match next {
-        Some(next) => next.id.queue != source.id.queue,
-        None => true,
-    };
-    is_end && source.part == Part::Log
+// Whether no other log file of its queue follows.
+fn is_last_log(source: &Source, behind: &[Source]) -> bool {
+    for next in behind {
+        if next.id.queue == source.id.queue && next.part == Part::Log {
+            return false;
+        }
+    }
+    source.part == Part::Log
 }
 
-// The version that a file's header tells.
-fn version_of(bytes: &[u8], part: Part) -> Option<Version> {
+// Whether the engine itself leaves so many zeros at a place: room made ahead, or padding.
+fn is_room(reading: Bytes<'_>, place: usize, len: usize) -> bool {
+    let is_end = place.saturating_add(len) == reading.bytes.len();
+    let is_open = reading.is_last || reading.source.part != Part::Log;
+    let is_padding = match reading.format {
+        Some(format) => (len as u64) < format.alignment,
+        None => false,
+    };
+    is_end && is_open || is_padding
+}
+
+// A file's header, if it has one that can be read.
+fn format_of(bytes: &[u8], part: Part) -> Option<LogFileFormat> {
     if let Part::Cut(from) = part {
         if from > 0 {
             return None;
@@ -115,9 +131,22 @@ fn version_of(bytes: &[u8], part: Part) -> Option<Version> {
     }
     let mut front = bytes;
     match LogFileFormat::decode(&mut front) {
-        Ok(format) => Some(format.version),
+        Ok(format) => Some(format),
         Err(_) => None,
     }
+}
+
+// The version that a header has.
+fn version_in(format: Option<LogFileFormat>) -> Option<Version> {
+    match format {
+        Some(format) => Some(format.version),
+        None => None,
+    }
+}
+
+// The version that a file's header has.
+fn version_of(bytes: &[u8], part: Part) -> Option<Version> {
+    version_in(format_of(bytes, part))
 }
 
 // Where the records of a source begin.
@@ -202,7 +231,7 @@ impl Gathering {
         }
         found.sort_by_key(|record| (record.0, record.1))?;
         for (_, _, record) in &found {
-            or_failure(self.tables.apply(record), "a record cannot be kept")?;
+            or_failure(self.tables.apply(record, false), "a record cannot be kept")?;
         }
         Ok(())
     }
@@ -238,10 +267,13 @@ impl Gathering {
     // later.
     fn read_log(&mut self, rt: &HostRuntime, source: &Source, behind: &[Source]) -> Result<()> {
         let bytes = read(rt, source)?;
-        let reading = self.reading_of(source, &bytes, None, is_last_log(source, behind.first()));
+        let reading = self.reading_of(source, &bytes, None, is_last_log(source, behind));
         let begin = begin_of(&bytes, source.part);
         let mut scanner = RecordScanner::new(self.alloc, &bytes, reading.signs, begin);
         let mut file = FileRead::new(source.name.clone()?);
+        if bytes.is_empty() {
+            or_failure(self.add_zeros(reading, 0, 0), source.name.as_str())?;
+        }
         for cut in behind {
             let Part::Cut(place) = cut.part else {
                 break;
@@ -251,22 +283,21 @@ impl Gathering {
             }
             let end = usize::try_from(place).unwrap_or(usize::MAX);
             self.read_records(reading, &mut scanner, end, &mut file)?;
-            self.read_whole(rt, cut, reading.signs.version)?;
+            self.read_whole(rt, cut, reading.format)?;
         }
         self.read_records(reading, &mut scanner, usize::MAX, &mut file)?;
         Ok(self.report.files.push(file)?)
     }
 
-    // Reads a file of which the version is known from another one, where its own header doesn't
-    // tell it.
+    // Reads a file. If it has no header, that of another file counts.
     fn read_whole(
         &mut self,
         rt: &HostRuntime,
         source: &Source,
-        version: Option<Version>,
+        other: Option<LogFileFormat>,
     ) -> Result<()> {
         let bytes = read(rt, source)?;
-        let reading = self.reading_of(source, &bytes, version, false);
+        let reading = self.reading_of(source, &bytes, other, false);
         let begin = begin_of(&bytes, source.part);
         let mut scanner = RecordScanner::new(self.alloc, &bytes, reading.signs, begin);
         let mut file = FileRead::new(source.name.clone()?);
@@ -278,17 +309,19 @@ impl Gathering {
         &self,
         source: &'a Source,
         bytes: &'a [u8],
-        version: Option<Version>,
+        other: Option<LogFileFormat>,
         is_last: bool,
     ) -> Bytes<'a> {
+        let format = format_of(bytes, source.part).or(other);
         Bytes {
             source,
             bytes,
             signs: FileSigns {
                 id: source.id,
-                version: version_of(bytes, source.part).or(version),
+                version: version_in(format),
                 stale: self.stale,
             },
+            format,
             is_last,
         }
     }
@@ -333,8 +366,23 @@ impl Gathering {
                 file.stale = file.stale.saturating_add(len as u64);
                 Ok(())
             }
-            Found::Zeros(_) | Found::Searching => Ok(()),
+            Found::Zeros(len) => self.add_zeros(reading, place, len),
+            Found::Searching => Ok(()),
         }
+    }
+
+    // Zeros are a place that can't be read, except those that the engine itself leaves.
+    fn add_zeros(&mut self, reading: Bytes<'_>, place: usize, len: usize) -> Result<(), Fault> {
+        if is_room(reading, place, len) {
+            return Ok(());
+        }
+        let gap = Gap {
+            len,
+            why: Unread::Header,
+            items: Vec::new(self.alloc),
+            is_one: false,
+        };
+        self.add_gap(reading, place, &gap)
     }
 
     fn add_record(
@@ -355,7 +403,7 @@ impl Gathering {
             }
         }
         file.records = file.records.saturating_add(1);
-        self.tables.apply(record)
+        self.tables.apply(record, id.queue == LogQueue::Append)
     }
 
     fn add_gap(&mut self, reading: Bytes<'_>, place: usize, gap: &Gap) -> Result<(), Fault> {

@@ -12,4 +12,4 @@ pub use gathering::{Gathering, gather};
 pub use report::{FileRead, Missing, Report, UnreadPlace};
 pub use sources::{Part, Source, named_sources, sources_of};
 pub use tables::{Group, Kept, Run, Tables};
-pub use telling::print_groups;
+pub use telling::{print_groups, print_missing};

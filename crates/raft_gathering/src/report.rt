@@ -1,4 +1,5 @@
-//! What is told of files that were read: how many records, and what could not be read and why.
+//! The report on files that were read: the number of records, the places that could not be read,
+//! and why.
 
 use anyhow::Result;
 use raft_console::Output;

@@ -12,7 +12,7 @@ use std::alloc::Global;
 use std::fs;
 use std::io::ErrorKind;
 
-/// From how many bytes on it is told that what the files hold stays in memory.
+/// The number of bytes from which on the use of memory is announced.
 const MUCH: u64 = 64 * 1024 * 1024;
 
 /// How many bytes the name of a log file has.
@@ -24,7 +24,7 @@ const PASSED: &str = ".passed";
 
 const LEFT_OVER: &str = ".left-over";
 
-/// What a file's name says behind that of a log file.
+/// The end of a file's name, after a log file's name.
 #[derive(Clone, Copy, PartialEq, Eq)]
 pub enum Part {
     /// Nothing: it is the log file.
@@ -50,7 +50,7 @@ enum Wanted {
 pub struct Source {
     pub id: FileId,
     pub part: Part,
-    /// Its name, as it is told.
+    /// Its name, as it is printed.
     pub name: String,
     /// Its path.
     pub path: String,
@@ -68,9 +68,9 @@ impl Drop for Source {
     }
 }
 
-/// The files of a folder and of a second one that are read; by queue, the Rewrite queue's first,
-/// then by number, and what was cut off by its place. With `stale` also those that a purge had
-/// dropped and a repair moved aside.
+/// The files of a folder and of a second one that are read: those of the Rewrite queue first, each
+/// queue's by number, and bytes that were cut off at their places. With `stale` also those that a
+/// purge had dropped and a repair moved aside.
 pub fn sources_of(
     rt: &HostRuntime,
     folder: &str,
@@ -234,8 +234,8 @@ pub(crate) fn read(rt: &HostRuntime, source: &Source) -> Result<Vec<u8>> {
     }
 }
 
-/// Tells how many bytes the files have if they are many: so much memory may be needed for what they
-/// hold, and more for what is known of each entry and key.
+/// Prints how many bytes the files have if they are many. As much memory may be needed for their
+/// contents, and more for each entry and key.
 pub(crate) fn note_need(rt: &HostRuntime, sources: &[Source], options: &Options<'_>) -> Result<()> {
     let mut bytes = 0u64;
     for source in sources {

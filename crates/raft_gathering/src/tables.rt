@@ -1,12 +1,13 @@
-//! What the records that were read stand for: of each group its entries, with their gaps, and its
+//! The contents of the records that were read: the entries of each group with their gaps, and its
 //! keys.
 
+use raft_inspect::{Filter, ItemKind};
 use raft_records::{Command, EntryIndex, Fault, KeyValue, LogItem, LogItemContent};
 use raft_whole_records::{WholeRecord, is_mark_key};
 use std::alloc::{AllocError, Global};
 use std::collections::BTreeMap;
 
-/// The value at a key, and whether it may be older than what was lost.
+/// The value at a key, and whether it may be older than a lost one.
 pub struct Kept {
     pub value: Vec<u8>,
     /// How many places could not be read before it was written.
@@ -30,6 +31,8 @@ impl Drop for Kept {
 pub struct Run {
     pub first: u64,
     pub entries: Vec<Vec<u8>>,
+    /// Whether the last of them was read from the Append queue.
+    is_appended: bool,
 }
 
 // One call in a proof that drops it; derived, it would be one of each field (docs/DECISIONS.md).
@@ -38,12 +41,13 @@ impl Drop for Run {
         let Run {
             first: _,
             entries: _entries,
+            is_appended: _,
         } = self;
     }
 }
 
 impl Run {
-    /// The index behind the last one.
+    /// The index after the last one.
     pub fn end(&self) -> u64 {
         self.first.saturating_add(self.entries.len() as u64)
     }
@@ -65,11 +69,27 @@ impl Drop for Group {
     }
 }
 
+impl Group {
+    /// Whether entries are lost between others. The Append queue has each record that was written
+    /// after one of its records, also a removal of entries. After entries of the Rewrite queue a
+    /// removal may have been dropped with its file.
+    fn has_gap(&self) -> bool {
+        for pair in self.runs.windows(2) {
+            if let [run, _] = pair {
+                if run.is_appended {
+                    return true;
+                }
+            }
+        }
+        false
+    }
+}
+
 /// All groups.
 pub struct Tables {
     alloc: Global,
     pub groups: BTreeMap<u64, Group>,
-    /// How many places could not be read so far.
+    /// The number of places that could not be read until now.
     pub losses: u64,
 }
 
@@ -97,20 +117,30 @@ impl Tables {
         self.losses = self.losses.saturating_add(1);
     }
 
-    /// Whether a key's value may be older than what was lost.
+    /// Whether a key's value may be older than a lost one.
     pub fn is_older(&self, kept: &Kept) -> bool {
         kept.is_changed || kept.losses < self.losses
     }
 
-    /// Applies the items of a record, in order.
-    pub fn apply(&mut self, record: &WholeRecord) -> Result<(), Fault> {
+    /// Whether entries are lost between others of a group, among those that the filter takes.
+    pub fn has_gap(&self, filter: Filter) -> bool {
+        for (number, group) in self.groups.iter() {
+            if group.has_gap() && filter.takes(*number, ItemKind::Entry, None) {
+                return true;
+            }
+        }
+        false
+    }
+
+    /// Applies the items of a record, in order: one of the Append queue's files, or another one.
+    pub fn apply(&mut self, record: &WholeRecord, is_appended: bool) -> Result<(), Fault> {
         for item in &record.items {
             let losses = self.losses;
             let alloc = self.alloc;
             let group = self.group(item.raft_group_id)?;
             match &item.content {
                 LogItemContent::EntryIndexes(entries) => {
-                    add_entries(alloc, group, record, entries)?;
+                    add_entries(alloc, group, record, entries, is_appended)?;
                 }
                 LogItemContent::Command(command) => command_group(group, *command),
                 LogItemContent::Kv(pair) => put_pair(alloc, group, pair, losses)?,
@@ -119,8 +149,7 @@ impl Tables {
         Ok(())
     }
 
-    /// Applies what is known of a record of which the entries can't be read: it removed entries, or
-    /// changed keys.
+    /// Applies a record whose entries can't be read: it removed entries, or changed keys.
     pub fn apply_lost(&mut self, items: &[LogItem]) -> Result<(), Fault> {
         for item in items {
             let group = self.group(item.raft_group_id)?;
@@ -197,6 +226,7 @@ fn add_entries(
     group: &mut Group,
     record: &WholeRecord,
     entries: &[EntryIndex],
+    is_appended: bool,
 ) -> Result<(), AllocError> {
     let Some(first) = entries.first() else {
         return Ok(());
@@ -211,9 +241,11 @@ fn add_entries(
         group.runs.push(Run {
             first,
             entries: Vec::new(alloc),
+            is_appended,
         })?;
     }
     if let Some(run) = group.runs.last_mut() {
+        run.is_appended = is_appended;
         for entry in entries {
             run.entries.push(record.entry(entry).to_vec(alloc)?)?;
         }

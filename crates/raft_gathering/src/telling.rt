@@ -1,13 +1,13 @@
-//! What is told of the groups that were read.
+//! The report on the groups that were read.
 
 use crate::tables::{Group, Run, Tables};
 use anyhow::Result;
 use raft_console::Output;
-use raft_inspect::Word;
+use raft_inspect::{Filter, ItemKind, Word};
 
-/// Prints a line for each group: the entries that a Raft node can use, which are those behind the
-/// last gap, and its keys. Lines behind it name the indexes that are missing, those that are left
-/// out, and the keys whose values may be older than what was lost.
+/// Prints a line for each group: the entries that a Raft node can use, which are those after the
+/// last gap, and its keys. Lines after it name the missing indexes, those that are left out, and
+/// the keys whose values may be older than the lost ones.
 pub fn print_groups(tables: &Tables, out: &mut Output) -> Result<()> {
     for (number, group) in tables.groups.iter() {
         if group.runs.is_empty() && group.keys.is_empty() {
@@ -16,6 +16,17 @@ pub fn print_groups(tables: &Tables, out: &mut Output) -> Result<()> {
         print_group(*number, group, out)?;
         print_gaps(*number, &group.runs, out)?;
         print_older(*number, group, tables, out)?;
+    }
+    Ok(())
+}
+
+/// Prints only the lines on missing indexes and those that are left out, of the groups that the
+/// filter takes.
+pub fn print_missing(tables: &Tables, filter: Filter, out: &mut Output) -> Result<()> {
+    for (number, group) in tables.groups.iter() {
+        if filter.takes(*number, ItemKind::Entry, None) {
+            print_gaps(*number, &group.runs, out)?;
+        }
     }
     Ok(())
 }

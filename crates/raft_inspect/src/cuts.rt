@@ -130,8 +130,8 @@ impl Cut {
 }
 
 impl Cut {
-    /// Searches so many more places of the bytes that are cut off for a whole record of the file;
-    /// none if the search is to go on. `unexplained` searches all of them at once.
+    /// Searches this number of further places of the cut bytes for a whole record of the file.
+    /// Returns none if the search is to continue. `unexplained` searches all places at once.
     pub fn search(
         &self,
         alloc: Global,

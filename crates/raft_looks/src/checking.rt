@@ -12,9 +12,9 @@ use raft_opening_plan::{Kind, Plan};
 use raft_records::Fault;
 use std::alloc::Global;
 
-/// Prints a line for each file, the plan of an opening in the options' mode, and what an opening in
-/// each mode would do; none if a file is gone meanwhile. If a file cannot be read, it prints the
-/// plan alone.
+/// Prints a line for each file, the plan of an opening in the options' mode, and what an opening
+/// in each mode would do. Returns `None` if a file is gone meanwhile. If a file cannot be read, it
+/// prints only the plan.
 pub fn check(
     alloc: Global,
     folder: &Folder,

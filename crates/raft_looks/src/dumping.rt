@@ -1,15 +1,20 @@
-//! What each log file holds, item by item. One part of a file at a time is in memory.
+//! The items of each log file, up to the first record whose checksums do not hold. One part of a
+//! file at a time is in memory.
 
 use crate::folder::Folder;
 use crate::source::FileSource;
 use anyhow::{Result, bail};
 use raft_console::{Output, Progress, Status, failure, or_failure};
-use raft_dump::{LogFile, LogFileParts, LogItemReader, RecordPlace, build_file_reader};
+use raft_dump::{LogFile, LogFileParts, RecordPlace, build_file_reader};
 use raft_env::FileSystem;
-use raft_files::LogFileReader;
+use raft_files::{FileRecordReader, LogFileReader};
 use raft_inspect::{Filter, add_fault, add_item};
-use raft_records::{Fault, LogQueue};
+use raft_memory::MemoryFileSystem;
+use raft_records::{Fault, FileId, LogItem, LogQueue};
 use std::alloc::Global;
+
+/// How many bytes of a part are read at once, unless a record needs more.
+const READ_BLOCK_SIZE: usize = 64 * 1024;
 
 /// Prints a line for each item of one file, or of all, that the filter takes: the Rewrite queue's
 /// first. Files that are dropped meanwhile are left out.
@@ -23,7 +28,10 @@ pub fn dump(
 ) -> Result<Status> {
     let files = chosen(alloc, folder, name)?;
     if let (Some(name), true) = (name, files.is_empty()) {
-        bail!("{name}: no log file of this folder");
+        if folder.has_other(name) {
+            bail!("{name}: its name does not begin with a log file's, as 0000000000000001.raftlog");
+        }
+        bail!("{name}: there is no such file in this folder");
     }
     let mut status = Status::Done;
     for (place, file) in files.iter().enumerate() {
@@ -55,7 +63,8 @@ fn chosen(alloc: Global, folder: &Folder, name: Option<&str>) -> Result<Vec<LogF
     Ok(chosen)
 }
 
-// Prints the items of a file, and says whether it can be read to its end.
+// Prints the items of a file, and returns whether it can be read to its end, which is so if a writer
+// drops it meanwhile.
 fn dump_file(
     alloc: Global,
     folder: &Folder,
@@ -80,6 +89,7 @@ fn dump_source(
     let size = source.size()?;
     let mut parts = match LogFileParts::open(alloc, size, source) {
         Ok(parts) => parts,
+        Err(_) if source.is_gone() => return Ok(true),
         Err(fault) => return Err(source.failure(&fault)),
     };
     let Some((place, fault)) = dump_parts(alloc, file, source, &mut parts, filter, out)? else {
@@ -90,7 +100,7 @@ fn dump_source(
     Ok(false)
 }
 
-// Prints the items of all parts, and says where and why the reading stops before the file's end.
+// Prints the items of all parts, and returns where and why the reading stops before the file's end.
 fn dump_parts(
     alloc: Global,
     file: &LogFile,
@@ -100,7 +110,12 @@ fn dump_parts(
     out: &mut Output,
 ) -> Result<Option<(RecordPlace, Fault)>> {
     for _ in 0..u64::MAX {
-        match dump_next(alloc, file, source, parts, filter, out)? {
+        let stop = match parts.next_image(alloc, file.path.as_str(), source) {
+            Ok(image) => dump_next(alloc, image, file, parts, filter, out)?,
+            Err(_) if source.is_gone() => break,
+            Err(fault) => return Err(source.failure(&fault)),
+        };
+        match stop {
             Some((place, fault)) => {
                 let there = place_in_file(parts, place);
                 if !parts.go_on(place.offset) {
@@ -117,23 +132,22 @@ fn dump_parts(
     Ok(None)
 }
 
+// The same of the next part, in its image.
 fn dump_next(
     alloc: Global,
+    mut image: MemoryFileSystem,
     file: &LogFile,
-    source: &mut FileSource<'_>,
-    parts: &mut LogFileParts,
+    parts: &LogFileParts,
     filter: Filter,
     out: &mut Output,
 ) -> Result<Option<(RecordPlace, Fault)>> {
-    match parts.next_image(alloc, file.path.as_str(), source) {
-        Ok(mut image) => dump_part(alloc, &mut image, file, parts, filter, out),
-        Err(fault) => Err(source.failure(&fault)),
-    }
+    dump_part(alloc, &mut image, file, parts, filter, out)
 }
 
-/// A part of a file, by the file's path, and which of its items are printed.
+/// A part of a file, and which of its items are printed.
 #[derive(Clone, Copy)]
 struct Part<'a> {
+    id: FileId,
     path: &'a str,
     parts: &'a LogFileParts,
     filter: Filter,
@@ -147,7 +161,7 @@ fn place_in_file(parts: &LogFileParts, place: RecordPlace) -> RecordPlace {
     }
 }
 
-// Prints the items of a part, and says where and why the reading stops before its end.
+// Prints the items of a part, and returns where and why the reading stops before its end.
 fn dump_part<F: FileSystem>(
     alloc: Global,
     image: &mut F,
@@ -157,55 +171,104 @@ fn dump_part<F: FileSystem>(
     out: &mut Output,
 ) -> Result<Option<(RecordPlace, Fault)>> {
     let path = file.path.as_str();
-    let mut reader = match build_file_reader(alloc, image, path) {
-        Ok(reader) => reader,
-        Err(fault) => bail!("{fault}"),
+    let Some(mut records) = open_records(alloc, image, file)? else {
+        let front = RecordPlace {
+            id: file.id,
+            offset: 0,
+        };
+        return Ok(Some((front, Fault::Corruption)));
     };
-    let named = LogFile {
-        id: file.id,
-        path: file.path.clone()?,
-    };
-    let mut items = LogItemReader::new(alloc, vec![in alloc; named]?);
+    let mut reader = or_failure(build_file_reader(alloc, image, path), path)?;
     let part = Part {
+        id: file.id,
         path,
         parts,
         filter,
     };
-    let stop = dump_items(alloc, image, &mut reader, &mut items, part, out);
+    let stop = dump_records(alloc, image, &mut reader, &mut records, part, out);
     reader.end(image);
+    records.end(image);
     stop
 }
 
-fn dump_items<F: FileSystem>(
+// The records of a part; none if its header cannot be read.
+fn open_records<F: FileSystem>(
+    alloc: Global,
+    image: &mut F,
+    file: &LogFile,
+) -> Result<Option<FileRecordReader<F>>> {
+    let path = file.path.as_str();
+    let mut reader = or_failure(build_file_reader(alloc, image, path), path)?;
+    match reader.parse_format(image) {
+        Ok(Some(format)) => Ok(Some(FileRecordReader::new(
+            alloc,
+            reader,
+            file.id,
+            format,
+            READ_BLOCK_SIZE,
+        ))),
+        Ok(None) => {
+            reader.end(image);
+            Ok(None)
+        }
+        Err(fault) => {
+            reader.end(image);
+            Err(failure(path, &fault.with_path(alloc, path)))
+        }
+    }
+}
+
+// A record is taken only if the checksum of its entries holds.
+fn dump_records<F: FileSystem>(
     alloc: Global,
     image: &mut F,
     reader: &mut LogFileReader<F>,
-    items: &mut LogItemReader<F>,
+    records: &mut FileRecordReader<F>,
     part: Part<'_>,
     out: &mut Output,
 ) -> Result<Option<(RecordPlace, Fault)>> {
     for _ in 0..u64::MAX {
-        let (Some(next), Some(place)) = (items.next(image), items.place()) else {
-            break;
+        let place = RecordPlace {
+            id: part.id,
+            offset: records.valid_offset(),
         };
-        let item = match next {
-            Ok(item) => item,
+        let items = match records.next(image, alloc, part.path, true) {
+            Ok(Some(batch)) => batch.into_items(),
+            Ok(None) => break,
             // No damage of the file.
             Err(Fault::Memory) => return Err(failure(part.path, &Fault::Memory)),
             Err(fault) => return Ok(Some((place, fault))),
         };
-        let there = place_in_file(part.parts, place);
+        dump_items(alloc, image, reader, &items, place, part, out)?;
+        records.reuse(items);
+        out.print_if_full()?;
+    }
+    Ok(None)
+}
+
+// Prints the items of a record.
+fn dump_items<F: FileSystem>(
+    alloc: Global,
+    image: &mut F,
+    reader: &mut LogFileReader<F>,
+    items: &[LogItem],
+    place: RecordPlace,
+    part: Part<'_>,
+    out: &mut Output,
+) -> Result<()> {
+    let there = place_in_file(part.parts, place);
+    for item in items {
         let added = add_item(
             alloc,
             image,
             reader,
             Some(there),
-            &item,
+            item,
             part.filter,
             &mut out.lines,
         );
         or_failure(added, part.path)?;
         out.print_if_full()?;
     }
-    Ok(None)
+    Ok(())
 }

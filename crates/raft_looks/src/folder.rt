@@ -28,6 +28,8 @@ pub struct Folder {
     pub(crate) alloc: Global,
     pub(crate) path: String,
     pub(crate) view: FolderView,
+    /// Whether this program itself has the log open, for a change.
+    is_own: bool,
     /// The second folder, if the options name one.
     pub(crate) spill: Option<String>,
     /// The note of the numbers that the log's files have had.
@@ -47,6 +49,7 @@ impl Drop for Folder {
             alloc: _,
             path: _path,
             view: _view,
+            is_own: _,
             spill: _spill,
             note: _note,
             files: _files,
@@ -85,6 +88,7 @@ impl Folder {
             alloc,
             path: String::from_str(alloc, path)?,
             view,
+            is_own: false,
             spill: None,
             note: None,
             files: Vec::new(alloc),
@@ -92,6 +96,13 @@ impl Folder {
             others: Vec::new(alloc),
         };
         folder.add_all(options.spill)?;
+        Ok(folder)
+    }
+
+    /// The same of a log that this program has open for a change: no other program writes to it.
+    pub fn open_own(rt: HostRuntime, path: &str, options: &Options<'_>) -> Result<Folder> {
+        let mut folder = Folder::open(rt, path, options)?;
+        folder.is_own = true;
         Ok(folder)
     }
 
@@ -121,9 +132,9 @@ impl Folder {
         }
     }
 
-    /// Whether a writer has the folder open, so that the files may change meanwhile.
+    /// Whether another writer has the folder open, so that the files may change meanwhile.
     pub fn is_in_use(&self) -> bool {
-        self.view.is_in_use()
+        !self.is_own && self.view.is_in_use()
     }
 
     fn add_names(&mut self, folder: &str, names: Vec<String>) -> Result<()> {
@@ -266,7 +277,8 @@ impl Folder {
         }
     }
 
-    fn has_other(&self, name: &str) -> bool {
+    /// Whether a file of this name that is no log file is in the folder.
+    pub(crate) fn has_other(&self, name: &str) -> bool {
         for other in &self.others {
             if other.as_str() == name {
                 return true;
@@ -398,7 +410,7 @@ fn check_source(
     let size = source.size()?;
     match check_parts(alloc, file, size, source) {
         Ok(check) => Ok(Some(check)),
-        Err(_) if source.is_gone() => Ok(None),
+        Err(_) if source.has_changed() => Ok(None),
         Err(fault) => Err(source.failure(&fault)),
     }
 }

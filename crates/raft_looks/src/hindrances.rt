@@ -10,6 +10,9 @@ use std::os::unix::fs::MetadataExt;
 
 const LOCK: &str = "LOCK";
 
+/// The note of which numbers the log's files have had.
+pub(crate) const SPANS: &str = "SPANS";
+
 /// The end of the name of a reserved file.
 const RESERVED: &str = ".reserved";
 
@@ -18,9 +21,17 @@ const SELF: &str = "/proc/self";
 
 /// Why a path is refused, and the command that mends it.
 #[derive(Drop)]
-struct Cause {
-    text: String,
-    mend: String,
+pub(crate) struct Cause {
+    pub text: String,
+    pub mend: String,
+}
+
+/// What a file of the log's folder is.
+#[derive(Clone, Copy, PartialEq, Eq)]
+enum Role {
+    Lock,
+    Note,
+    Log,
 }
 
 /// Looks at places of the system for what an opening is refused there.
@@ -30,12 +41,24 @@ pub(crate) struct Places<'a> {
     pub planner: Planner<'a>,
     /// Whether the opening reads reserved files.
     pub reads_reserved: bool,
+    /// Whether a program has the log open to change it.
+    pub is_in_use: bool,
 }
 
 impl Places<'_> {
-    /// Adds what an opening would be refused for at the log's own files in a folder of the system.
-    /// It opens files to write and writes nothing; a folder that isn't there has none.
+    /// Adds what an opening would be refused for at the log's own files in its folder. It opens
+    /// files to write and writes nothing.
     pub fn add_refused(&self, folder: &str, plan: &mut Plan) -> Result<()> {
+        self.add_files(folder, &[Role::Lock, Role::Note, Role::Log], plan)
+    }
+
+    /// The same for the note of spans.
+    pub fn add_refused_note(&self, folder: &str, plan: &mut Plan) -> Result<()> {
+        self.add_files(folder, &[Role::Note], plan)
+    }
+
+    // Those of the files with these roles. A folder that does not exist has none.
+    fn add_files(&self, folder: &str, roles: &[Role], plan: &mut Plan) -> Result<()> {
         let entries = match fs::read_dir(self.rt, folder) {
             Ok(entries) => entries,
             Err(e) if e.kind() == ErrorKind::NotFound => return Ok(()),
@@ -43,7 +66,7 @@ impl Places<'_> {
         };
         for entry in entries {
             match entry {
-                Ok(entry) => self.add_entry(&entry, plan)?,
+                Ok(entry) => self.add_entry(&entry, roles, plan)?,
                 // No log file's.
                 Err(e) if e.kind() == ErrorKind::InvalidFilename => {}
                 Err(e) => return Err(anyhow!("{e}").context(folder)),
@@ -66,7 +89,7 @@ impl Places<'_> {
             if is_link(self.rt, place.as_str()) {
                 return Ok(self.add_link(place.as_str(), plan)?);
             }
-            self.add_refused(place.as_str(), plan)?;
+            self.add_files(place.as_str(), &[Role::Log], plan)?;
         }
         Ok(())
     }
@@ -93,22 +116,20 @@ impl Places<'_> {
         }
     }
 
-    fn add_entry(&self, entry: &DirEntry, plan: &mut Plan) -> Result<()> {
-        let is_lock = entry.file_name() == LOCK;
-        if !is_lock && !is_log_name(entry.file_name()) {
-            return Ok(());
-        }
-        let is_opened = self.reads_reserved || !entry.file_name().ends_with(RESERVED);
+    fn add_entry(&self, entry: &DirEntry, roles: &[Role], plan: &mut Plan) -> Result<()> {
+        let role = match role_of(entry.file_name()) {
+            Some(role) if roles.contains(&role) => role,
+            _ => return Ok(()),
+        };
         let place = entry.path();
-        let metadata = match is_lock {
+        let metadata = match role {
             // The lock may be a link to a file.
-            true => fs::metadata(self.rt, place.as_str()),
-            false => fs::symlink_metadata(self.rt, place.as_str()),
+            Role::Lock => fs::metadata(self.rt, place.as_str()),
+            _ => fs::symlink_metadata(self.rt, place.as_str()),
         };
         let cause = match metadata {
-            // An opening passes over a folder with a log file's name.
-            Ok(metadata) if !is_lock && metadata.is_dir() => None,
-            Ok(metadata) => self.cause_of(place.as_str(), &metadata, is_lock, is_opened)?,
+            Ok(metadata) if is_passed_over(&metadata, role) => None,
+            Ok(metadata) => self.cause_of(place.as_str(), &metadata, role)?,
             // A writer deleted it.
             Err(_) => None,
         };
@@ -123,41 +144,46 @@ impl Places<'_> {
         &self,
         place: &str,
         metadata: &Metadata,
-        is_lock: bool,
-        is_opened: bool,
+        role: Role,
     ) -> Result<Option<Cause>, AllocError> {
         let alloc = self.rt.alloc();
         if !metadata.is_file() {
-            let text = match (is_lock, metadata.is_symlink()) {
-                (true, _) => "the lock is no file",
-                (false, true) => "a link in place of a log file",
-                (false, false) => "neither a file nor a folder",
+            let text = match (role, metadata.is_symlink()) {
+                (Role::Lock, _) => "the lock is no file",
+                (_, true) => "a link in place of a log file",
+                (_, false) => "neither a file nor a folder",
             };
             return Ok(Some(Cause {
                 text: String::from_str(alloc, text)?,
                 mend: self.planner.move_place(place, "aside")?,
             }));
         }
-        if !is_lock && metadata.nlink() != 1 {
-            return Ok(Some(Cause {
-                text: String::from_str(alloc, "the file has a second name")?,
-                mend: self.planner.copy_over(place)?,
-            }));
+        if role == Role::Log && metadata.nlink() != 1 {
+            let text = String::from_str(alloc, "the file has a second name")?;
+            return Ok(Some(self.by_copy(place, text)?));
         }
-        if !is_opened {
+        if !self.reads_reserved && place.ends_with(RESERVED) {
             return Ok(None);
         }
         match opened(self.rt, place) {
             Ok(()) => Ok(None),
             // A look works on what may not be written at all.
             Err(e) if e.kind() == ErrorKind::ReadOnlyFilesystem => Ok(None),
-            Err(e) => Ok(Some(self.unopened(place, metadata.uid(), &e)?)),
+            // An opening goes on without a note.
+            Err(e) if role == Role::Note && e.kind() != ErrorKind::PermissionDenied => Ok(None),
+            Err(e) => Ok(Some(self.unopened(place, metadata.uid(), role, &e)?)),
         }
     }
 
     // Only the owner of a file gives rights to it; others put a copy in its place, if they can read
-    // it.
-    fn unopened(&self, place: &str, owner: u32, error: &io::Error) -> Result<Cause, AllocError> {
+    // it. A second lock would let two programs write.
+    fn unopened(
+        &self,
+        place: &str,
+        owner: u32,
+        role: Role,
+        error: &io::Error,
+    ) -> Result<Cause, AllocError> {
         let alloc = self.rt.alloc();
         if error.kind() != ErrorKind::PermissionDenied {
             return Ok(Cause {
@@ -171,14 +197,49 @@ impl Places<'_> {
                 mend: self.planner.allow(place)?,
             });
         }
-        let mend = match File::open(self.rt, place) {
-            Ok(_) => self.planner.copy_over(place)?,
-            Err(_) => String::new(alloc),
-        };
+        let text = format!(in alloc; "{error}: its owner is user {owner}")?;
+        if role != Role::Lock && File::open(self.rt, place).is_ok() {
+            return self.by_copy(place, text);
+        }
         Ok(Cause {
-            text: format!(in alloc; "{error}: its owner is user {owner}")?,
-            mend,
+            text,
+            mend: String::new(alloc),
         })
+    }
+
+    /// A copy is put in the place of a file. A program that has the log open would continue with
+    /// the file itself.
+    pub fn by_copy(&self, place: &str, text: String) -> Result<Cause, AllocError> {
+        let alloc = self.rt.alloc();
+        if self.is_in_use {
+            return Ok(Cause {
+                text: format!(in alloc;
+                    "{text}; a program has the log open: stop it, and look again"
+                )?,
+                mend: String::new(alloc),
+            });
+        }
+        let mend = self.planner.copy_over(place)?;
+        Ok(Cause { text, mend })
+    }
+}
+
+fn role_of(name: &str) -> Option<Role> {
+    if name == LOCK {
+        return Some(Role::Lock);
+    }
+    if name == SPANS {
+        return Some(Role::Note);
+    }
+    is_log_name(name).then_some(Role::Log)
+}
+
+// Whether an opening passes over what has the name of a log file or of the note.
+fn is_passed_over(metadata: &Metadata, role: Role) -> bool {
+    match role {
+        Role::Lock => false,
+        Role::Note => !metadata.is_file() || metadata.nlink() != 1,
+        Role::Log => metadata.is_dir(),
     }
 }
 

@@ -10,7 +10,7 @@ use raft_command_line::Options;
 use raft_config::RecoveryMode;
 use raft_console::Progress;
 use raft_inspect::{Behind, BehindSearch, Cut, QueueFiles, cuts_of, search_behind};
-use raft_opening_plan::{Plan, Planner, may_be_stray};
+use raft_opening_plan::{Kind, Plan, Planner, may_be_stray};
 use raft_records::{Fault, LogQueue};
 
 /// How many places are searched before progress is reported.
@@ -60,8 +60,8 @@ impl Folder {
         }
     }
 
-    /// What an opening in the options' mode does; none if a file is gone meanwhile. If a file cannot
-    /// be read, it is what the system refuses.
+    /// What an opening in the options' mode does; none if a file is gone meanwhile. If a file
+    /// cannot be read, it is what the system refuses.
     pub fn plan(&self, options: &Options<'_>, progress: &mut Progress) -> Result<Option<Plan>> {
         match self.inspect_both(progress) {
             Ok(Some(queues)) => self.whole_plan(&queues, options, progress),
@@ -98,8 +98,8 @@ impl Folder {
         Ok(Some(plan))
     }
 
-    /// The same without what the system refuses and what is deleted: what is lost of files that
-    /// were read.
+    /// The same without items of refusals by the system and of deletions: only losses of files
+    /// that were read.
     pub fn plan_of(
         &self,
         queues: &BothQueues,
@@ -108,6 +108,7 @@ impl Folder {
     ) -> Result<Option<Plan>> {
         let planner = self.planner(options.mode);
         let mut plan = Plan::new(self.alloc);
+        self.add_unread_note(options, &mut plan)?;
         for found in [&queues.append, &queues.rewrite] {
             made(planner.add_failures(found, &mut plan))?;
         }
@@ -129,6 +130,7 @@ impl Folder {
     pub fn unread(&self, options: &Options<'_>, progress: &mut Progress) -> Result<Option<Plan>> {
         let planner = self.planner(options.mode);
         let mut plan = Plan::new(self.alloc);
+        self.add_note(options, &mut plan)?;
         self.add_unread(planner, &mut plan)?;
         for queue in &[LogQueue::Append, LogQueue::Rewrite] {
             if QueueFiles::passed_by_number(&self.files_of(*queue)?) == 0 {
@@ -142,6 +144,17 @@ impl Folder {
             planner.add_passed(&found, is_stray, known.as_ref(), &mut plan)?;
         }
         Ok(Some(plan))
+    }
+
+    // Adds a note that is not read, or why the system refuses it to an opening.
+    fn add_note(&self, options: &Options<'_>, plan: &mut Plan) -> Result<()> {
+        self.add_unread_note(options, plan)?;
+        if plan.has(Kind::Note) {
+            let places = self.places(options);
+            places.add_refused_note(self.path.as_str(), plan)?;
+            plan.drop_unreached(self.alloc)?;
+        }
+        Ok(())
     }
 
     /// What the system refuses of the log's own files.
@@ -171,12 +184,17 @@ impl Folder {
         Ok(())
     }
 
-    fn add_refused(&self, options: &Options<'_>, plan: &mut Plan) -> Result<()> {
-        let places = Places {
+    pub(crate) fn places(&self, options: &Options<'_>) -> Places<'_> {
+        Places {
             rt: &self.rt,
             planner: self.planner(options.mode),
             reads_reserved: reads_reserved(options),
-        };
+            is_in_use: self.is_in_use(),
+        }
+    }
+
+    fn add_refused(&self, options: &Options<'_>, plan: &mut Plan) -> Result<()> {
+        let places = self.places(options);
         places.add_refused(self.path.as_str(), plan)?;
         if let Some(spill) = &self.spill {
             places.add_spill(self.path.as_str(), spill.as_str(), plan)?;

@@ -21,6 +21,8 @@ pub struct FileSource<'a> {
     given: History<FilePart>,
     /// The system's text when it refused a read.
     refused: Option<OpenFault>,
+    /// Whether a read found fewer bytes than the file had.
+    is_cut: bool,
 }
 
 // One call in a proof that drops it; derived, it would be one of each field (docs/DECISIONS.md).
@@ -34,6 +36,7 @@ impl Drop for FileSource<'_> {
             progress: _,
             given: _given,
             refused: _refused,
+            is_cut: _,
         } = self;
     }
 }
@@ -60,6 +63,7 @@ impl<'a> FileSource<'a> {
             progress,
             given: History::new(),
             refused: None,
+            is_cut: false,
         }))
     }
 
@@ -68,15 +72,29 @@ impl<'a> FileSource<'a> {
         Ok(usize::try_from(self.size)?)
     }
 
-    /// Whether a read was refused since the file is there no more.
+    /// Whether a read was refused since the file no longer exists.
     pub fn is_gone(&self) -> bool {
         self.refused.as_ref().is_some_and(is_missing)
+    }
+
+    /// The same, or whether a writer cut off the room that was made ahead in the file.
+    pub fn has_changed(&self) -> bool {
+        self.is_cut || self.is_gone()
+    }
+
+    // Whether so many bytes from a place on are fewer than the file had there.
+    fn is_short(&self, at: usize, len: usize, found: usize) -> bool {
+        let rest = self.size.saturating_sub(at as u64);
+        (found as u64) < rest.min(len as u64)
     }
 
     /// Why a reading of parts failed: what the system said, if it refused a read.
     pub fn failure(&self, fault: &Fault) -> Error {
         match &self.refused {
             Some(refused) => told(&self.rt, refused),
+            None if self.is_cut => {
+                anyhow!("a writer cut it while it was read: try again").context(self.path)
+            }
             None => anyhow!("{fault}"),
         }
     }
@@ -90,6 +108,7 @@ impl PartSource for FileSource<'_> {
         let _ = self.progress.within(self.path, at as u64, self.size);
         match self.view.read_part(self.path, at as u64, len) {
             Ok(bytes) => {
+                self.is_cut = self.is_cut || self.is_short(at, len, bytes.len());
                 let part = FilePart { at, len, bytes };
                 self.given = self.given.with(&part);
                 Ok(part)

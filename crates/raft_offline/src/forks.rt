@@ -5,12 +5,12 @@ use anyhow::{Result, anyhow};
 use raft_command_line::Request;
 use raft_commands::config;
 use raft_config::Config;
-use raft_console::{Output, Progress, Status, failure, or_failure};
+use raft_console::{Output, Progress, Status, check_len, failure, or_failure};
 use raft_disk::{DiskFileSystem, FolderView, OpenFault, image_of};
 use raft_env::{FileSystem, FsFault};
 use raft_fork::FORK_MARK;
 use raft_inspect::Word;
-use raft_looks::{Folder, tell_refusal, told};
+use raft_looks::{Folder, is_inside, tell_refusal, told};
 use raft_memory::MemoryFileSystem;
 use std::alloc::{AllocError, Global};
 use std::io::ErrorKind;
@@ -21,6 +21,9 @@ pub(crate) const SOURCE: &str = "source";
 pub(crate) const TARGET: &str = "target";
 
 pub(crate) const BEFORE_NAME: &str = "target/";
+
+/// How many bytes the target's note of its files has.
+const NOTE_LEN: u64 = 1024;
 
 /// Copies the log files that an opening of the request's folder keeps into another, which is made
 /// if it is missing, syncs each and prints its name. That folder has the mark of a fork from before
@@ -44,8 +47,14 @@ fn fork_source(
     if source.is_in_use() {
         return Err(anyhow!("it is open already").context(request.folder));
     }
+    if is_inside(&rt, target, request.folder)? {
+        return Err(anyhow!("the fork would be in the log's own folder").context(format_args!(
+            "{target}"
+        )));
+    }
     let status = status_of_source(rt, request)?;
     let copies = copies_of(rt, source, request, target)?;
+    check_lens(&rt, source, &copies)?;
     match DiskFileSystem::open_with(rt, target, None) {
         Ok(mut files) => {
             copy_or_tell(rt, source, &copies, &mut files, request)?;
@@ -96,6 +105,21 @@ fn copies_of(
         planned(rt.alloc(), &config, &mut image),
         "the log cannot be copied",
     )
+}
+
+// Fails if a copy would be longer than a file may be.
+fn check_lens(rt: &HostRuntime, source: &FolderView, copies: &[Copy]) -> Result<()> {
+    let mut longest = NOTE_LEN;
+    for copy in copies {
+        match source.size(copy.from.as_str()) {
+            Ok(len) => longest = longest.max(len),
+            Err(fault) => return Err(told(rt, &fault)),
+        }
+    }
+    match check_len(rt, longest) {
+        Ok(()) => Ok(()),
+        Err(error) => Err(error.context("the log cannot be copied")),
+    }
 }
 
 // Both folders, with files without bytes.

@@ -1,4 +1,4 @@
-//! Items of what is not read, of what the system refuses, and of what is deleted.
+//! Items for files that are not read, that the system refuses, and that are deleted.
 
 use crate::item::Item;
 use crate::kind::Kind;
@@ -73,6 +73,19 @@ impl Planner<'_> {
             at: 0,
             bytes: 0,
             cause: String::from_str(self.alloc, cause)?,
+            mend,
+        })
+    }
+
+    /// A file in the place of the note of spans in which no note can be read.
+    pub fn unread_note(&self, name: &str, why: &str, mend: String) -> Result<Item, AllocError> {
+        Ok(Item {
+            kind: Kind::Note,
+            path: String::from_str(self.alloc, name)?,
+            files: 1,
+            at: 0,
+            bytes: 0,
+            cause: format!(in self.alloc; "{why}: without a note no missing file is known")?,
             mend,
         })
     }

@@ -27,6 +27,8 @@ pub enum Kind {
     Queue,
     /// It does not find files that the note of spans lists.
     Missing,
+    /// It reads no note of spans in the file of that name.
+    Note,
     /// It deletes reserved files, which hold no record.
     Reserved,
 }
@@ -34,7 +36,7 @@ pub enum Kind {
 /// What a command does that changes the log.
 #[derive(Clone, Copy, Debug, PartialEq, Eq)]
 pub enum Change {
-    /// It reports the item and goes on.
+    /// It reports the item and continues.
     GoesOn,
     /// It is refused before the opening, if no `--cut` is given.
     Refused,
@@ -72,6 +74,7 @@ impl Kind {
             Kind::Folder => Row("left-out", Status::WouldPass, Change::Refused),
             Kind::Queue => Row("gone", Status::WouldPass, Change::Refused),
             Kind::Missing => Row("missing", Status::WouldPass, Change::Refused),
+            Kind::Note => Row("note", Status::Done, Change::GoesOn),
             Kind::Reserved => Row("reserved", Status::Done, Change::GoesOn),
         }
     }

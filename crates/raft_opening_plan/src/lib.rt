@@ -1,6 +1,6 @@
-//! What an opening of a log's files does that loses something or needs a word: one plan, which all
-//! commands print alike, with the command that mends each item and one table of statuses. Only
-//! values: nothing here reads a folder.
+//! The plan of an opening: each step that loses something or needs a word. All commands print it
+//! alike, with the command that mends each item and one table of statuses. Only values: nothing
+//! here reads a folder.
 #![tactic(auto)]
 
 mod command;

@@ -3,13 +3,15 @@
 use crate::command::{FROM_SPILL, SPILL};
 use crate::item::Item;
 use crate::kind::{Change, Kind, Row};
+use anyhow::Result;
 use raft_command_line::Options;
-use raft_console::Status;
+use raft_console::{Status, print_error};
 use raft_inspect::Lines;
 use std::alloc::{AllocError, Global};
-use std::{io, str};
+use std::str;
 
-/// What an opening cuts, passes over, leaves out and deletes, and where it fails.
+/// The bytes that an opening cuts, the files that it passes over, leaves out and deletes, and the
+/// places at which it fails.
 pub struct Plan {
     pub items: Vec<Item>,
 }
@@ -39,14 +41,13 @@ impl Plan {
         false
     }
 
-    /// The status of `check`: a failure, else what is passed over or left out, else a cut.
+    /// The status of `check`: for a failure, otherwise for files that are passed over or left out,
+    /// otherwise for a cut.
     pub fn status(&self) -> Status {
         let mut status = Status::Done;
         for item in &self.items {
             let Row(_, each, _) = item.kind.row();
-            if rank_of(each) > rank_of(status) {
-                status = each;
-            }
+            status = status.or_worse(each);
         }
         status
     }
@@ -71,7 +72,7 @@ impl Plan {
         None
     }
 
-    /// Leaves out what happens to the bytes of files at which the opening is refused before.
+    /// Leaves out the findings on files' bytes if the opening is refused before it reads them.
     pub fn drop_unreached(&mut self, alloc: Global) -> Result<(), AllocError> {
         let mut places = Vec::new(alloc);
         for item in &self.items {
@@ -102,24 +103,21 @@ impl Plan {
     }
 
     /// Prints on standard error the lines that `check` prints, except those of reserved files.
-    pub fn tell(&self, rt: &HostRuntime, options: &Options<'_>) -> io::Result<()> {
+    pub fn tell(&self, rt: &HostRuntime, options: &Options<'_>) -> Result<()> {
         let mut lines = Lines::new(rt.alloc(), options.json, false);
         for item in &self.items {
             if item.kind != Kind::Reserved {
                 item.add_line(&mut lines)?;
             }
         }
-        match str::from_utf8(lines.as_bytes()) {
-            Ok(text) => eprint!(rt; "{text}"),
-            Err(_) => Ok(()),
-        }
+        print_error(rt, str::from_utf8(lines.as_bytes())?)
     }
 }
 
 // Whether an item is of bytes of a file at one of these places.
 fn is_unreached(item: &Item, places: &[String]) -> bool {
     match item.kind {
-        Kind::Tail | Kind::Records | Kind::Broken => {}
+        Kind::Tail | Kind::Records | Kind::Broken | Kind::Note => {}
         _ => return false,
     }
     for place in places {
@@ -128,14 +126,4 @@ fn is_unreached(item: &Item, places: &[String]) -> bool {
         }
     }
     false
-}
-
-// Which of two statuses counts.
-fn rank_of(status: Status) -> u8 {
-    match status {
-        Status::Done | Status::Absent | Status::Refused => 0,
-        Status::WouldCut => 1,
-        Status::WouldPass => 2,
-        Status::WouldFail => 3,
-    }
 }

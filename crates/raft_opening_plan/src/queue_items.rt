@@ -222,7 +222,8 @@ impl Planner<'_> {
         let (first, last) = (known.first, known.last);
         if are_all_in(files, &known.left_over) {
             let why = format!(in self.alloc;
-                "a purge had dropped them: the log begins with number {first}"
+                "a purge dropped them or an earlier opening passed over them: the log begins with \
+                number {first}"
             )?;
             return Ok((Kind::LeftOver, why));
         }
@@ -232,13 +233,13 @@ impl Planner<'_> {
         Ok((Kind::Passed, why))
     }
 
-    // A folder that is left out may have the missing number.
+    // A folder that is left out, or that the note names, may have the missing number.
     fn mend_of_passed(&self, kind: Kind, plan: &Plan) -> Result<String, AllocError> {
         if kind == Kind::LeftOver {
             return self.raftctl("repair");
         }
         for item in &plan.items {
-            if item.kind == Kind::Folder {
+            if item.kind == Kind::Folder || (item.kind == Kind::Missing && item.files > 0) {
                 return item.mend.clone();
             }
         }

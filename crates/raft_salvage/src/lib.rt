@@ -1,5 +1,5 @@
-//! Commands of raftctl that write what was read elsewhere to a log: from damaged files to a new
-//! log, and from lines or another log's folder to this log.
+//! Commands of raftctl that write data from elsewhere to a log: from damaged files to a new log,
+//! and from lines or another log's folder to this log.
 #![tactic(auto)]
 
 mod salvaging;

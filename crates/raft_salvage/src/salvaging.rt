@@ -8,15 +8,20 @@ use raft_console::{Output, Status};
 use raft_contents::{Material, TableImport};
 use raft_gathering::{Gathering, Source, gather, named_sources, print_groups, sources_of};
 use raft_inspect::Filter;
+use raft_looks::is_inside;
 use std::fs::{self, File};
 use std::io::{self, ErrorKind};
 use std::thread::Threads;
 
-/// Reads every whole record of the request's folder, or of the files that are named, and writes
-/// what they stand for into a new folder. It prints how many records each file has, what could not
-/// be read and why, and of each group what came back. Standard error has the plan of an opening of
-/// the folder; if that has losses, the status is 4. Nothing is changed in the request's folder. The
-/// new log is made under the name `TARGET.part`, and gets its own name once it is whole and synced.
+/// The name of the file of a log's lock.
+const LOCK: &str = "LOCK";
+
+/// Reads every whole record of the request's folder, or of the named files, and writes their
+/// contents into a new folder. It prints how many records each file has, what could not be read
+/// and why, and of each group what came back. Standard error has the plan of an opening of the
+/// folder. If that has losses, or entries are lost between others of a group, the status is 4.
+/// Nothing is changed in the request's folder. The new log is made under the name `TARGET.part`,
+/// and gets its own name once it is whole and synced.
 pub fn salvage<R: Threads + Sync>(
     rt: HostRuntime,
     threads: &R,
@@ -24,13 +29,13 @@ pub fn salvage<R: Threads + Sync>(
     asked: &Salvage<'_>,
 ) -> Result<Status> {
     if !request.options.changing.dry_run {
-        check_target(&rt, asked.target, part_of(&rt, asked)?.as_str())?;
+        check_target(&rt, request.folder, asked)?;
     }
     let mut status = Status::Done;
     let sources = find_sources(rt, request, asked, &mut status)?;
     let gathering = gather(&rt, &sources, asked.stale, &request.options)?;
     tell(rt, request, &gathering)?;
-    if !gathering.report.is_whole() {
+    if !gathering.report.is_whole() || gathering.tables.has_gap(Filter::ALL) {
         status = Status::WouldCut;
     }
     if request.options.changing.dry_run {
@@ -69,8 +74,8 @@ fn find_sources(
 }
 
 // The name of the new log until it is whole.
-fn part_of(rt: &HostRuntime, asked: &Salvage<'_>) -> Result<String> {
-    Ok(format!(in rt.alloc(); "{}.part", asked.target)?)
+fn part_of(rt: &HostRuntime, target: &str) -> Result<String> {
+    Ok(format!(in rt.alloc(); "{target}.part")?)
 }
 
 fn write<R: Threads + Sync>(
@@ -81,7 +86,7 @@ fn write<R: Threads + Sync>(
     gathering: &Gathering,
     status: Status,
 ) -> Result<Status> {
-    let part = part_of(&rt, asked)?;
+    let part = part_of(&rt, asked.target)?;
     let mut options = request.options;
     options.spill = None;
     let target = Request::new(part.as_str(), options, Verb::Settings, false);
@@ -107,13 +112,42 @@ fn tell(rt: HostRuntime, request: &Request<'_>, gathering: &Gathering) -> Result
     out.print()
 }
 
-// The target is an empty folder, or nothing; and no other salvage into it has begun.
-fn check_target(rt: &HostRuntime, target: &str, part: &str) -> Result<()> {
-    if stands(rt, part)? {
+// The target is an empty folder or does not exist, and is not in the folder of a log that is read.
+// No other salvage into it has begun.
+fn check_target(rt: &HostRuntime, folder: &str, asked: &Salvage<'_>) -> Result<()> {
+    let target = asked.target;
+    check_outside(rt, target, folder)?;
+    for file in &asked.files {
+        if let Some((folder, _)) = file.rsplit_once('/') {
+            check_outside_log(rt, target, folder)?;
+        }
+    }
+    let part = part_of(rt, target)?;
+    if stands(rt, part.as_str())? {
         bail!("{part}: a salvage that has not ended made it: remove it, and salvage again");
     }
     if stands(rt, target)? && !is_empty(rt, target)? {
         bail!("{target}: it isn't empty, and a salvage writes a new log: name another folder");
+    }
+    Ok(())
+}
+
+fn check_outside(rt: &HostRuntime, target: &str, folder: &str) -> Result<()> {
+    if is_inside(rt, target, folder)? {
+        bail!(
+            "{target}: a salvage writes nothing into the folder of a log that it reads: name \
+            another one"
+        );
+    }
+    Ok(())
+}
+
+// A named file may be in any folder; that of a log has the file of a lock.
+fn check_outside_log(rt: &HostRuntime, target: &str, folder: &str) -> Result<()> {
+    let folder = if folder.is_empty() { "/" } else { folder };
+    let lock = format!(in rt.alloc(); "{folder}/{LOCK}")?;
+    if stands(rt, lock.as_str())? {
+        check_outside(rt, target, folder)?;
     }
     Ok(())
 }

@@ -27,7 +27,7 @@ impl Drop for SourceLog {
 }
 
 impl SourceLog {
-    /// Of the log in a folder and in the second one of the options.
+    /// The log in a folder and in the options' second folder.
     pub fn look_at(rt: HostRuntime, folder: &str, options: &Options<'_>) -> Result<SourceLog> {
         let view = Folder::open(rt, folder, options)?;
         let mut progress = Progress::of(rt, options)?;

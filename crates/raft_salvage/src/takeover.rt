@@ -6,7 +6,8 @@ use raft_command_line::{Import, Options, Request};
 use raft_commands::change_by;
 use raft_console::{Output, Status, tell};
 use raft_contents::{LineImport, Material, TableImport, filter_of};
-use raft_gathering::{Part, Report, Source, gather, sources_of};
+use raft_gathering::{Gathering, Part, Source, gather, print_missing, sources_of};
+use raft_looks::is_inside;
 use raft_opening_plan::Plan;
 use std::thread::Threads;
 
@@ -22,10 +23,10 @@ pub fn import_lines<R: Threads + Sync>(
     change_by(rt, threads, request, &mut material)
 }
 
-/// Writes what another folder's log files stand for, whose entries may be compressed by LZ4. Where
-/// more of that log is lost than the end of a queue, nothing is done without `--cut`, and the status
-/// is 7. Where the end of a queue can't be read it is left out and told. Then, and with `--cut`, the
-/// status is 4.
+/// Writes the contents of another folder's log files, whose entries may be compressed with LZ4.
+/// If more of that log is lost than the end of a queue, or entries between others of a group, then
+/// nothing is done without `--cut`, and the status is 7. If the end of a queue can't be read, it is
+/// left out, and that is printed. Then, and with `--cut`, the status is 4.
 pub fn import_folder<R: Threads + Sync>(
     rt: HostRuntime,
     threads: &R,
@@ -33,6 +34,12 @@ pub fn import_folder<R: Threads + Sync>(
     import: Import<'_>,
     folder: &str,
 ) -> Result<Status> {
+    if is_inside(&rt, request.folder, folder)? {
+        bail!(
+            "{}: this log would be in the folder that is read",
+            request.folder
+        );
+    }
     let log = look_at(rt, request, import, folder)?;
     let mut sources = sources_of(&rt, folder, import.spill, false)?;
     sources.retain(|source| source.part == Part::Log);
@@ -43,7 +50,7 @@ pub fn import_folder<R: Threads + Sync>(
     }
     check_single(&sources)?;
     let gathering = gather(&rt, &sources, false, &request.options)?;
-    let Some(status) = judge(rt, request, folder, &log.plan, &gathering.report)? else {
+    let Some(status) = judge(rt, request, import, folder, &log.plan, &gathering)? else {
         return Ok(Status::Refused);
     };
     let mut material = Material::Tables(TableImport {
@@ -54,8 +61,8 @@ pub fn import_folder<R: Threads + Sync>(
     change_by(rt, threads, request, &mut material)
 }
 
-// What an opening of the other log does not read. The import has an option of its own for the second
-// folder.
+// What an opening of the other log does not read. The import has an option of its own for the
+// second folder.
 fn look_at(
     rt: HostRuntime,
     request: &Request<'_>,
@@ -87,27 +94,36 @@ fn check_single(sources: &[Source]) -> Result<()> {
     Ok(())
 }
 
-// Tells what is lost of the other log, and the status with which the import goes on; none if it does
-// not.
+// Prints what is lost of the other log, and the gaps of its groups. Returns the status with which
+// the import continues; none if it does not.
 fn judge(
     rt: HostRuntime,
     request: &Request<'_>,
+    import: Import<'_>,
     folder: &str,
     plan: &Plan,
-    report: &Report,
+    gathering: &Gathering,
 ) -> Result<Option<Status>> {
     let options = &request.options;
-    let is_partial = plan.refusing().is_some();
+    let report = &gathering.report;
+    let tables = &gathering.tables;
+    let filter = filter_of(import);
+    let has_gap = tables.has_gap(filter);
+    let is_partial = plan.refusing().is_some() || plan.failing().is_some();
     if is_partial || !options.quiet {
         plan.tell(&rt, options)?;
     }
-    if report.is_whole() && !is_partial {
+    let is_whole = report.is_whole() && !is_partial && !has_gap;
+    let mut out = Output::new(rt, options);
+    if !is_whole {
+        report.print(&mut out)?;
+    }
+    print_missing(tables, filter, &mut out)?;
+    out.print()?;
+    if is_whole {
         return Ok(Some(Status::Done));
     }
-    let mut out = Output::new(rt, options);
-    report.print(&mut out)?;
-    out.print()?;
-    let loses_ends_alone = report.loses_ends_alone() && !is_partial;
+    let loses_ends_alone = report.loses_ends_alone() && !is_partial && !has_gap;
     if loses_ends_alone || options.changing.cut {
         return Ok(Some(Status::WouldCut));
     }
@@ -123,8 +139,8 @@ fn refuse(rt: HostRuntime, options: &Options<'_>, folder: &str, is_partial: bool
         )?
     } else {
         format!(in rt.alloc();
-            "{folder}: more than the end of a queue cannot be read, and nothing was done: \
-            `raftctl {folder} salvage TARGET` tells what comes back, `--cut` imports it"
+            "{folder}: more is lost than the end of a queue, and nothing was done: \
+            `raftctl {folder} salvage TARGET` prints what can be read, `--cut` imports it"
         )?
     };
     tell(&rt, options.json, "error", text.as_str())

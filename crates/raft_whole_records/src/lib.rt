@@ -1,4 +1,4 @@
-//! Finds the whole records in the bytes of a log file, also behind broken ones, and decompresses
+//! Finds the whole records in the bytes of a log file, also after broken ones, and decompresses
 //! their entries.
 #![tactic(auto)]
 

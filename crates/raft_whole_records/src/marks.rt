@@ -66,7 +66,7 @@ pub fn is_mark_key(key: &[u8]) -> bool {
     key == MARK_KEY.as_slice()
 }
 
-/// The mark that stands at its key.
+/// The mark in the value at its key.
 pub fn mark_in(value: &[u8]) -> u8 {
     match value {
         [mark] => *mark,

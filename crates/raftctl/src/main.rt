@@ -5,7 +5,7 @@ use anyhow::{Result, bail};
 use clap::Error;
 use raft_command_line::{Request, Verb, arrange, completion_script, parse, printable};
 use raft_commands::{change, look};
-use raft_console::{Status, check_file_limit, print_bytes, take_closed_streams, tell};
+use raft_console::{Status, check_file_limit, print_bytes, print_error, take_closed_streams, tell};
 use raft_offline::{fork_folder, print_settings, settings_of};
 use raft_salvage::{import_folder, import_lines, salvage};
 use raft_watch::watch;
@@ -89,21 +89,21 @@ fn failed(rt: &HostRuntime, json: bool, error: &anyhow::Error) -> ExitCode {
 fn misused(rt: &HostRuntime, json: bool, error: &Error) -> ExitCode {
     match print_misuse(rt, json, error) {
         Ok(()) => ExitCode::from(error.exit_code() as u8),
-        Err(_) => ExitCode::FAILURE,
+        Err(unprinted) => failed(rt, json, &unprinted),
     }
 }
 
 fn print_misuse(rt: &HostRuntime, json: bool, error: &Error) -> Result<()> {
-    if !error.use_stderr() {
-        return Ok(error.print(rt)?);
-    }
     let text = format!(in rt.alloc(); "{error}")?;
+    if !error.use_stderr() {
+        return print_bytes(rt, text.as_bytes());
+    }
     if json {
         return tell(rt, json, "error", text.trim_end());
     }
     for line in text.lines() {
         let line = printable(rt.alloc(), line)?;
-        eprintln!(rt; "{line}")?;
+        print_error(rt, format!(in rt.alloc(); "{line}\n")?.as_str())?;
     }
     Ok(())
 }
