@@ -180,8 +180,7 @@ struct block *blocks_next(const struct heap *heap, const struct block *from) {
 
 /* ---- the reserve */
 
-bool heap_make_reserve(struct heap *heap) {
-    if (heap->reserve) return true;
+bool heap_renew_reserve(struct heap *heap) {
     void *at = mmap(NULL, HEAP_RESERVE, BOTH, MAP_PRIVATE | MAP_ANONYMOUS, -1, 0);
     if (at == MAP_FAILED) return false;
     heap->reserve = at;

@@ -65,7 +65,8 @@ void heap_leave(void);
 /* A log that finds no memory in the middle of a change may fail. So each log has a reserve: if there is no memory for what the
  * proved part asks for between `heap_enter` and `heap_leave`, the reserve is given back to the system, which is asked again.
  * Before a change the reserve is made anew; false if there is no memory for it. */
-bool heap_make_reserve(struct heap *heap);
+bool heap_renew_reserve(struct heap *heap);
+static inline bool heap_make_reserve(struct heap *heap) { return heap->reserve || heap_renew_reserve(heap); }
 void heap_drop_reserve(struct heap *heap);
 
 /* ---- a file, around the calls on it */

@@ -2,6 +2,7 @@
  * reported by each later opening until that is accepted, also after notes that were refused, and if the note is stale. */
 #include "faults.h"
 #include "noted.h"
+#include "parts.h"
 
 #include <sys/wait.h>
 
@@ -145,6 +146,34 @@ static bool is_kept_after(int refused, bool is_purge) {
     return !WEXITSTATUS(status);
 }
 
+/* A note is refused before a file is deleted, and then the process ends: the note before stays, which reports the loss. */
+static void is_kept_without_a_note(void) {
+    raftlog_lost lost[ROOM];
+    uint64_t first, last;
+    int status;
+    empty();
+    work(DELETING);
+    find(&first, &last);
+    CHECK(last > first + 1);
+    take_away(last);
+    fflush(stdout);
+    pid_t child = fork();
+    CHECK(child >= 0);
+    if (!child) {
+        char path[TEXT_ROOM];
+        raftlog *log = open_with(folder, DELETING);
+        atomic_store(&faults_notes, 1);
+        snprintf(path, sizeof path, "%016llu.raftlog", (unsigned long long)first);
+        CHECK(parts_leave_span(log, path) == 0 && !atomic_load(&faults_notes));
+        take_away(first);
+        fflush(stdout);
+        _exit(0);
+    }
+    CHECK(waitpid(child, &status, 0) == child && status == 0);
+    CHECK(is_noted() && lost_in(DELETING, lost) == 2 && is_lost(lost, RAFTLOG_FILE_MISSING, first, first));
+    CHECK(is_lost(lost + 1, RAFTLOG_FILE_MISSING, last, last));
+}
+
 /* The oldest file of a queue is taken away, and a purge passes it: the loss is marked. */
 static void mark(const char *end) {
     char command[TEXT_ROOM];
@@ -188,6 +217,7 @@ int main(int argc, char **argv) {
     stray();
     put_back();
     is_stale();
+    is_kept_without_a_note();
     is_marked_over_gap("raftlog");
     is_marked_over_gap("rewrite");
     int calls = 1, refused = 0;

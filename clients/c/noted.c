@@ -10,8 +10,20 @@
 #include <sys/wait.h>
 
 #define COMMENTED DELETING "  # spill-dir = \"other\"\n"
-/* A form that the library doesn't know. */
 #define INDENTED DELETING "  spill-dir = \"spill\"\n"
+#define IN_TABLE DELETING "[other]\nspill-dir = \"spill\"\n"
+#define ESCAPED DELETING "\"spill\\u002ddir\" = \"spill\"\n"
+#define MULTILINE DELETING "spill-dir = \"\"\"spill\"\"\"\n"
+#define LITERAL DELETING "spill-dir = '''spill'''\n"
+
+/* Forms that the library doesn't know, and whether they name the folder. */
+static const struct { const char *text; bool is_second; } unknown[] = {
+    {INDENTED, true}, {IN_TABLE, false}, {ESCAPED, true}, {MULTILINE, true}, {LITERAL, true}};
+
+/* Paths of the second folder that no opening takes, and how it fails. */
+static const struct { const char *path; int code; } refused[] = {
+    {"./spill", RAFTLOG_IO}, {"spill/", RAFTLOG_IO}, {"spill//", RAFTLOG_IO}, {"x/../spill", RAFTLOG_IO}, {"..", RAFTLOG_IO},
+    {"/spill", RAFTLOG_IO}, {"", RAFTLOG_INVALID}};
 
 enum { PATIENCE = 20, NOBODY = 65534 };
 
@@ -41,7 +53,16 @@ static int kill_at_each(const char *settings) {
     return calls - 1;
 }
 
-/* One file is taken away: the first, one between, the last, or all. */
+/* The greatest number of a file. */
+static uint64_t last_file(void) {
+    uint64_t last = 0;
+    for (uint64_t number = 1; number < 10 * MANY; number++)
+        if (has_file(number)) last = number;
+    return last;
+}
+
+/* One file is taken away: the first, one between, the last, or all. What is taken away after that was accepted is
+ * reported too. */
 static void lose(void) {
     raftlog_lost lost[ROOM];
     char text[TEXT_ROOM];
@@ -61,8 +82,66 @@ static void lose(void) {
         CHECK(raftlog_open_whole(folder, DELETING, &log, text, sizeof text) == 0);
         CHECK(raftlog_missing(log, NULL, 0, 0) == 0);
         CHECK(raftlog_accept_missing(folder, text, sizeof text) == RAFTLOG_IN_USE);
-        CHECK(raftlog_close(log) == 0 && lost_in(DELETING, NULL) == 0);
+        CHECK(raftlog_close(log) == 0 && lost_in(DELETING, NULL) == 0 && is_noted());
+        work(DELETING);
+        last = last_file();
+        take_away(last);
+        CHECK(raftlog_open_whole(folder, DELETING, &log, text, sizeof text) == RAFTLOG_LOST && !log);
+        CHECK(lost_in(DELETING, lost) == 1 && is_lost(lost, RAFTLOG_FILE_MISSING, last, last));
     }
+}
+
+static void spilled_name(char name[TEXT_ROOM], uint64_t number) {
+    snprintf(name, TEXT_ROOM, "%s/spill/%016llu.raftlog", folder, (unsigned long long)number);
+}
+
+/* Moves a file to the second folder. */
+static void spill_file(uint64_t number) {
+    char name[TEXT_ROOM], other[TEXT_ROOM];
+    snprintf(other, sizeof other, "%s/spill", folder);
+    CHECK(!mkdir(other, 0777) || errno == EEXIST);
+    name_of(name, number);
+    spilled_name(other, number);
+    CHECK(!rename(name, other));
+}
+
+static void take_away_spilled(uint64_t number) {
+    char name[TEXT_ROOM];
+    spilled_name(name, number);
+    CHECK(!unlink(name));
+}
+
+/* A stray is accepted: the log is then what an opening reads. */
+static void accept_stray(void) {
+    raftlog_lost lost[ROOM];
+    uint64_t first, last;
+    char name[TEXT_ROOM], other[TEXT_ROOM], text[TEXT_ROOM];
+    empty();
+    work(SPILLED);
+    find(&first, &last);
+    name_of(name, last);
+    name_of(other, last + 5);
+    CHECK(!rename(name, other));
+    CHECK(lost_in(SPILLED, lost) == 2 && is_lost(lost, RAFTLOG_FILE_STRAY, last + 5, last + 5));
+    CHECK(is_lost(lost + 1, RAFTLOG_FILE_MISSING, last, last));
+    CHECK(raftlog_accept_missing(folder, text, sizeof text) == 0 && is_noted() && lost_in(SPILLED, NULL) == 0);
+    take_away(last + 5);
+    CHECK(lost_in(SPILLED, lost) == 1 && is_lost(lost, RAFTLOG_FILE_MISSING, last + 5, last + 5));
+}
+
+/* A loss is accepted while a file is in the second folder: it is one of the log's. */
+static void accept_beside_spilled(void) {
+    raftlog_lost lost[ROOM];
+    uint64_t first, last;
+    char text[TEXT_ROOM];
+    empty();
+    work(SPILLED);
+    find(&first, &last);
+    take_away(first);
+    spill_file(last - 1);
+    CHECK(raftlog_accept_missing(folder, text, sizeof text) == 0 && lost_in(SPILLED, NULL) == 0);
+    take_away_spilled(last - 1);
+    CHECK(lost_in(SPILLED, lost) == 1 && is_lost(lost, RAFTLOG_FILE_MISSING, last - 1, last - 1));
 }
 
 static void put_note(const char *bytes, size_t len) {
@@ -109,6 +188,56 @@ static void is_broken(void) {
     CHECK(!mkdir(name, 0777));
     work(DELETING);
     CHECK(!rmdir(name) && lost_in(DELETING, NULL) == 0);
+}
+
+/* Changes each slot of the note that has one: a mark that a purge was deleting files, or other bytes at its begin. */
+static void change_note(bool is_dropping, int broken) {
+    uint8_t bytes[1024];
+    char name[TEXT_ROOM];
+    snprintf(name, sizeof name, "%s/SPANS", folder);
+    FILE *file = fopen(name, "r+");
+    CHECK(file && fread(bytes, 1, sizeof bytes, file) == sizeof bytes);
+    for (int place = 0; place < 2; place++) {
+        uint8_t *slot = bytes + place * 512;
+        slot[63] = is_dropping;
+        uint32_t crc = parts_crc(slot, 508);
+        for (int i = 0; i < 4; i++) slot[508 + i] = (uint8_t)(crc >> 8 * i);
+        if (place == broken) memset(slot, 'x', 100);
+    }
+    rewind(file);
+    CHECK(fwrite(bytes, 1, sizeof bytes, file) == sizeof bytes && !fclose(file));
+}
+
+/* If a purge was deleting files, the first ones may be gone. A file after those that exist may not. */
+static void is_dropping(void) {
+    raftlog_lost lost[ROOM];
+    uint64_t first, last;
+    for (int is_marked = 0; is_marked < 2; is_marked++) {
+        empty();
+        work(DELETING);
+        find(&first, &last);
+        CHECK(last > first + 3);
+        take_away(first);
+        take_away(first + 1);
+        if (is_marked) take_away(last - 1);
+        change_note(is_marked, -1);
+        uint64_t from = is_marked ? last - 1 : first;
+        CHECK(lost_in(DELETING, lost) == 1 && is_lost(lost, RAFTLOG_FILE_MISSING, from, is_marked ? from : from + 1));
+    }
+}
+
+/* One slot of the note is broken: the other one counts. */
+static void has_broken_slot(void) {
+    raftlog_lost lost[ROOM];
+    uint64_t first, last;
+    for (int place = 0; place < 2; place++) {
+        empty();
+        work(DELETING);
+        find(&first, &last);
+        take_away(first);
+        change_note(false, place);
+        CHECK(lost_in(DELETING, lost) == 1 && is_lost(lost, RAFTLOG_FILE_MISSING, first, first));
+    }
 }
 
 /* The status of a child that does this. */
@@ -248,7 +377,7 @@ static void cancelled(void) {
         atomic_store(&accepted, -1);
         CHECK(!pthread_create(&thread, NULL, accept_cancelled, (void *)folder));
         CHECK(!pthread_join(thread, &ended) && ended == PTHREAD_CANCELED);
-        CHECK(atomic_load(&accepted) == (is_open ? RAFTLOG_IN_USE : RAFTLOG_OK) && is_noted() == is_open);
+        CHECK(atomic_load(&accepted) == (is_open ? RAFTLOG_IN_USE : RAFTLOG_OK) && is_noted());
         if (log) CHECK(raftlog_close(log) == 0);
         CHECK(lost_in(DELETING, NULL) == (size_t)is_open);
         alarm(0);
@@ -260,13 +389,10 @@ static void cancelled(void) {
 static void settings(void) {
     raftlog_lost lost[ROOM];
     uint64_t first, last;
-    char name[TEXT_ROOM], other[TEXT_ROOM];
     empty();
     work(SPILLED);
     find(&first, &last);
-    name_of(name, last);
-    snprintf(other, sizeof other, "%s/spill", folder);
-    run("mv '%s' '%s'", name, other);
+    spill_file(last);
     CHECK(lost_in(DELETING, lost) == 1 && is_lost(lost, RAFTLOG_FILE_MISSING, last, last));
 
     empty();
@@ -274,29 +400,60 @@ static void settings(void) {
     find(&first, &last);
     take_away(first);
     CHECK(lost_in(COMMENTED, lost) == 1 && is_lost(lost, RAFTLOG_FILE_MISSING, first, first));
-    CHECK(lost_in(INDENTED, NULL) == 0 && is_noted());
-    CHECK(lost_in(DELETING, lost) == 1 && is_lost(lost, RAFTLOG_FILE_MISSING, first, first));
+    for (size_t i = 0; i < sizeof unknown / sizeof *unknown; i++) {
+        CHECK(lost_in(unknown[i].text, NULL) == 0 && is_noted());
+        CHECK(lost_in(DELETING, lost) == 1 && is_lost(lost, RAFTLOG_FILE_MISSING, first, first));
+    }
     raftlog *log = open_with(folder, INDENTED);
     for (int i = 0; i < MANY; i++) CHECK(put_key(log, 'm', i) == 0);
     CHECK(!is_noted() && raftlog_must_rewrite_append_queue(log, NULL) == 0 && !is_noted());
     CHECK(raftlog_close(log) == 0 && lost_in(DELETING, NULL) == 0 && is_noted());
 }
 
+/* A file is moved to the second folder, which settings in a form that isn't known name, or none. Nothing is reported. */
+static void moved_to_unknown(void) {
+    uint64_t first, last;
+    char text[TEXT_ROOM];
+    for (size_t i = 0; i < sizeof unknown / sizeof *unknown; i++) {
+        empty();
+        raftlog *log = open_with(folder, unknown[i].text);
+        for (int key = 0; key < MANY; key++) CHECK(put_key(log, 'm', key) == 0);
+        CHECK(raftlog_close(log) == 0);
+        find(&first, &last);
+        spill_file(last - 1);
+        CHECK(raftlog_open_whole(folder, unknown[i].text, &log, text, sizeof text) == 0);
+        CHECK((count_keys(log, 'm', MANY) == MANY) == unknown[i].is_second && raftlog_close(log) == 0);
+    }
+}
+
+/* The settings name the second folder by a path that is refused: both openings fail alike, and call no file missing. */
+static void named_by_refused(void) {
+    uint64_t first, last;
+    char text[TEXT_ROOM], settings[TEXT_ROOM];
+    empty();
+    work(SPILLED);
+    find(&first, &last);
+    spill_file(last - 1);
+    for (size_t i = 0; i < sizeof refused / sizeof *refused; i++) {
+        raftlog *log = NULL;
+        snprintf(settings, sizeof settings, DELETING "spill-dir = \"%s\"\n", refused[i].path);
+        CHECK(raftlog_open(folder, settings, &log, text, sizeof text) == refused[i].code && !log);
+        CHECK(raftlog_open_whole(folder, settings, &log, text, sizeof text) == refused[i].code && !log && is_noted());
+    }
+    CHECK(lost_in(SPILLED, NULL) == 0 && is_noted());
+}
+
 /* Files in the second folder are the log's. */
 static void spill(void) {
     raftlog_lost lost[ROOM];
     uint64_t first, last;
-    char name[TEXT_ROOM], other[TEXT_ROOM];
     empty();
     work(SPILLED);
     find(&first, &last);
-    name_of(name, last - 1);
-    snprintf(other, sizeof other, "%s/spill", folder);
-    run("mv '%s' '%s'", name, other);
+    spill_file(last - 1);
     CHECK(lost_in(SPILLED, NULL) == 0);
-    snprintf(name, sizeof name, "%s/spill/%016llu.raftlog", folder, (unsigned long long)last - 1);
-    CHECK(!unlink(name) && lost_in(SPILLED, lost) == 1);
-    CHECK(is_lost(lost, RAFTLOG_FILE_MISSING, last - 1, last - 1));
+    take_away_spilled(last - 1);
+    CHECK(lost_in(SPILLED, lost) == 1 && is_lost(lost, RAFTLOG_FILE_MISSING, last - 1, last - 1));
 }
 
 /* Syncs of a rotation and of a purge. */
@@ -322,14 +479,20 @@ int main(int argc, char **argv) {
     folder = argv[1];
     int kills = kill_at_each(RECYCLING) + kill_at_each(DELETING) + kill_at_each(SPILLED);
     lose();
+    accept_stray();
+    accept_beside_spilled();
     is_unknown();
     is_broken();
+    is_dropping();
+    has_broken_slot();
     spill();
     delete_last();
     note_fails();
     of_another();
     cancelled();
     settings();
+    moved_to_unknown();
+    named_by_refused();
     count();
     empty();
     printf("ok, killed at %d file calls\n", kills);

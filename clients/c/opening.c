@@ -305,6 +305,6 @@ int parts_accept(raftlog *log, char *text, size_t room) {
     int error = hold_own(log);
     if (!error) error = make_absolute(log);
     int code = error ? fail(&found, log->folder, error) : lock_folder(log, &found);
-    if (!code && (error = parts_forget_spans(log))) code = fail_at(log, &found, "SPANS", error);
+    if (!code && (error = parts_accept_spans(log))) code = fail_at(log, &found, "SPANS", error);
     return code;
 }

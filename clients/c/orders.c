@@ -312,11 +312,10 @@ void parts_leave(void) {
     giving = NULL;
 }
 
-bool parts_make_order_room(raftlog *log, size_t len) {
+bool parts_make_more_room(raftlog *log, size_t len) {
     size_t room = log->room ? log->room : ORDERS_BEGIN;
     if (len > SIZE_MAX / 4) return false;
     while (room < log->given + len) room *= 2;
-    if (room == log->room) return true;
     uint8_t *orders = realloc(log->orders, room);
     if (!orders) return false;
     log->orders = orders;

@@ -238,7 +238,10 @@ enum { PARTS_ORDERS = INT_MAX };
 ssize_t parts_give(int to, const void *order, size_t len);
 
 /* Makes room for so many bytes of orders more; false if there is no memory. */
-bool parts_make_order_room(raftlog *log, size_t len);
+bool parts_make_more_room(raftlog *log, size_t len);
+static inline bool parts_make_order_room(raftlog *log, size_t len) {
+    return len <= log->room - log->given || parts_make_more_room(log, len);
+}
 
 /* Carries out the orders that were given, up to the first that fails, which `broken` then tells:
  * 0, or an error. */
@@ -300,13 +303,16 @@ int parts_fail(const raftlog *log, int code, char *text);
 /* Makes and locks the folder, and hands what stands in it over: a code, for a failure a text. If asked, fails as
  * RAFTLOG_LOST if the folder's note tells of lost files. */
 int parts_find(raftlog *log, const char *settings, bool refuses_lost, char *text, size_t room);
-/* Locks the folder, and removes its note. */
+/* Locks the folder, and accepts what its note reports. */
 int parts_accept(raftlog *log, char *text, size_t room);
 bool parts_is_log_name(const char *name);
 
 /* The note of the files' numbers. These answer 0, or an error of the system's. It is read first, then each path that the
  * opening found is given, and then they are compared. */
 int parts_begin_spans(raftlog *log, const char *settings);
+/* The second folder that the settings name, or none. False if that isn't known: it has another form than a line
+ * `spill-dir = "PATH"`, or `room` is too short. */
+bool parts_find_spill(const char *settings, char *spill, size_t room);
 int parts_find_span(raftlog *log, const char *path);
 int parts_judge_spans(raftlog *log);
 /* Says which file is lost, if one is. */
@@ -321,7 +327,8 @@ void parts_add_span(raftlog *log, const char *path);
  * it alone. */
 int parts_leave_span(raftlog *log, const char *path);
 bool parts_is_same_queue(raftlog *log, const char *path, const char *other);
-int parts_forget_spans(raftlog *log);
+/* The note then has the files after the last gap, without a loss. */
+int parts_accept_spans(raftlog *log);
 void parts_end_spans(raftlog *log);
 
 /* Why an opening found corruption: the first damage of a log file, and its place. */

@@ -225,18 +225,24 @@ typedef struct {
 
 /* Returns how many such facts the opening found, and stores the first of them, at most `room`, in `lost`, which may be
  * NULL if `room` is 0. `size` is sizeof(raftlog_lost), as for `raftlog_stats`. After a crash or a kill there are none.
- * Later openings report them too, until the files are put back or the loss is accepted. A loss is forgotten if a write
- * could neither replace the note nor, later, make a new one. So is a missing file whose number no other file got, if
- * another program makes the note stale. Without a note nothing is reported, and nothing if the settings have `spill-dir`
- * in another form than a line `spill-dir = "PATH"`. */
+ * Later openings report them too, until the files are put back, the loss is accepted, or the note itself cannot be read.
+ * A missing file whose number no other file got is also forgotten if the note becomes stale: another program writes to
+ * the log, or each note is refused while two files are made. If a note was refused, files that a purge dropped may be
+ * reported besides. Without a note nothing is reported, and nothing if the settings may name `spill-dir` in another form
+ * than by one line `spill-dir = "PATH"`. Such a log removes the note, with what it reported, when it makes, deletes or
+ * renames a file. If one of the note's two halves is damaged, the other one counts: files that a purge dropped since
+ * may be reported. */
 size_t raftlog_missing(raftlog *log, raftlog_lost *lost, size_t room, size_t size);
 
 /* As `raftlog_open`, but fails as RAFTLOG_LOST if a file is missing or was, or is a stray, as `raftlog_missing` knows
  * it. It has changed no log file then. */
 int raftlog_open_whole(const char *folder, const char *settings, raftlog **out, char *text, size_t room);
 
-/* Accepts what is missing in a folder that nobody has open: it removes the note. The next opening writes one of the files
- * that it finds. It fails as RAFTLOG_INVALID, RAFTLOG_IN_USE or RAFTLOG_FOLDER, with a text as `raftlog_open`. */
+/* Accepts what is missing in a folder that nobody has open: the note then has the files after the last gap, in
+ * the log's folder and the second folder that the note names. Put files back before: one that is put back after is read,
+ * but its loss is not noticed. A note that cannot be read or replaced is removed, and the next opening begins one if the
+ * files' numbers have no gap. A SPANS of another program is removed too. It fails as
+ * RAFTLOG_INVALID, RAFTLOG_IN_USE, RAFTLOG_FOLDER or RAFTLOG_NO_MEMORY, with a text as `raftlog_open`. */
 int raftlog_accept_missing(const char *folder, char *text, size_t room);
 
 /* Syncs, closes and frees the log, whatever it returns. After RAFTLOG_OK all that was written survives a crash. After

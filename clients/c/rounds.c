@@ -212,7 +212,7 @@ static void hand_over(raftlog *log, struct parts_change *change, bool sync) {
 
 /* Makes the reserve, and room for the change's orders and its round's sync, before anything is done, or refuses the change. A
  * purge gives its orders in parts, and makes its own room. */
-static bool has_room_for(raftlog *log, struct parts_change *change) {
+static inline bool has_room_for(raftlog *log, struct parts_change *change) {
     if (change->kind == PARTS_CLOSE) return true;
     bool gives_parts = !log->folder || parts_is_purge(change);
     bool has_room = heap_make_reserve(&log->heap)

@@ -6,6 +6,7 @@
  * can't be written fails no write of the log. */
 #include "parts.h"
 
+#include <dirent.h>
 #include <endian.h>
 #include <errno.h>
 #include <fcntl.h>
@@ -90,7 +91,7 @@ static void take(struct parts_spans *spans, int place, const uint8_t slot[SLOT])
     spans->spill[numbers[6]] = 0;
 }
 
-/* Whether a slot has no note yet, or begins as one. */
+/* Whether a slot has no note yet, or begins as one. If neither slot has a note, the file is else another program's. */
 static bool may_be_note(const uint8_t *slot, size_t len) {
     size_t zeros = 0;
     while (zeros < len && !slot[zeros]) zeros++;
@@ -225,16 +226,16 @@ static int write_note(raftlog *log) {
     return 0;
 }
 
-/* A note that can't be written is removed: without one nothing is reported as missing. A loss that it had is owed to the
- * next one. */
+/* A note that can't be written is removed: without one nothing is reported as missing. One that reports a loss stays: it may
+ * then report as missing what a purge drops, but the loss is not forgotten. */
 static int write_or_remove(raftlog *log) {
     struct parts_spans *spans = log->spans;
     if (spans->file < 0 || (!spans->is_silent && !write_note(log))) return 0;
-    int error = remove_note(log);
-    if (error) return error;
+    spans->owes_loss = spans->knows_loss && !spans->is_silent;
+    int error = spans->owes_loss ? 0 : remove_note(log);
+    if (error || spans->owes_loss) return error;
     close(spans->file);
     spans->file = -1;
-    spans->owes_loss = spans->knows_loss && !spans->is_silent;
     return 0;
 }
 
@@ -244,12 +245,11 @@ static int read_note(struct parts_spans *spans, int fd) {
     if (TEMP_FAILURE_RETRY(fsync(fd))) return errno;
     while ((len = pread(fd, bytes, sizeof bytes, 0)) < 0 && errno == EINTR) continue;
     if (len < 0) return errno;
-    for (ssize_t at = 0; at < len; at += SLOT) {
-        size_t rest = (size_t)(len - at) < SLOT ? (size_t)(len - at) : SLOT;
-        spans->is_silent |= at == 2 * SLOT || !may_be_note(bytes + at, rest);
-    }
+    spans->is_silent = len > 2 * SLOT;
     for (int place = 0; place < 2 && !spans->is_silent; place++)
         if (len >= (place + 1) * SLOT) take(spans, place, bytes + place * SLOT);
+    for (ssize_t at = 0; at < len && !spans->count; at += SLOT)
+        spans->is_silent |= !may_be_note(bytes + at, (size_t)(len - at) < SLOT ? (size_t)(len - at) : SLOT);
     return 0;
 }
 
@@ -276,76 +276,23 @@ static int open_note(raftlog *log) {
 
 /* ---- which files are the log's */
 
-/* The queue of the log file at a path, and its number; -1 for another file. */
-static int queue_of(const struct parts_spans *spans, const char *path, uint64_t *number) {
-    const char *slash = strrchr(path, '/'), *name = slash ? slash + 1 : path;
-    size_t len = slash ? (size_t)(slash - path) : 0;
-    bool is_own = !len || (strlen(spans->spill) == len && !memcmp(spans->spill, path, len));
+/* The queue of a log file with this name, and its number; -1 for another file. */
+static int queue_of_name(const char *name, uint64_t *number) {
     char *end;
-    if (!is_own || !parts_is_log_name(name)) return -1;
+    if (!parts_is_log_name(name)) return -1;
     *number = strtoull(name, &end, 10);
     return !strcmp(end, ".raftlog") ? APPEND : !strcmp(end, ".rewrite") ? REWRITE : -1;
 }
 
-/* The first `spill-dir` from a place of the settings on that isn't in a line of a comment; NULL if there is none. */
-static const char *find_key(const char *settings, const char *from) {
-    const char *key = from;
-    while ((key = strstr(key, "spill-dir"))) {
-        const char *line = key;
-        while (line > settings && line[-1] != '\n') line--;
-        if (line[strspn(line, " \t")] != '#') return key;
-        key += strlen("spill-dir");
-    }
-    return NULL;
+/* The same of the file at a path. */
+static int queue_of(const struct parts_spans *spans, const char *path, uint64_t *number) {
+    const char *slash = strrchr(path, '/');
+    size_t len = slash ? (size_t)(slash - path) : 0;
+    bool is_own = !len || (strlen(spans->spill) == len && !memcmp(spans->spill, path, len));
+    return is_own ? queue_of_name(slash ? slash + 1 : path, number) : -1;
 }
 
-/* The value of a line `spill-dir = ".."` of the settings. Another form, or a path that is too long, isn't known. */
-static bool find_spill(const char *settings, char *spill, size_t room) {
-    const char *key = find_key(settings, settings);
-    *spill = 0;
-    if (!key) return true;
-    const char *at = key + strlen("spill-dir");
-    at += strspn(at, " \t");
-    if (*at++ != '=') return false;
-    at += strspn(at, " \t");
-    const char *end = *at == '"' || *at == '\'' ? strchr(at + 1, *at) : NULL;
-    size_t len = end ? (size_t)(end - at - 1) : room;
-    if (len >= room || memchr(at, '\\', len + 1) || memchr(at, '\n', len + 1)) return false;
-    bool is_only = (key == settings || key[-1] == '\n') && !find_key(settings, end);
-    memcpy(spill, at + 1, is_only ? len : 0);
-    spill[is_only ? len : 0] = 0;
-    return is_only;
-}
-
-static int compare(const void *one, const void *other) {
-    uint64_t a = *(const uint64_t *)one, b = *(const uint64_t *)other;
-    return (a > b) - (a < b);
-}
-
-/* ---- what the other files call */
-
-/* If the second folder isn't known, the note stays until a log file is made, deleted or renamed: then it is removed. */
-int parts_begin_spans(raftlog *log, const char *settings) {
-    struct parts_spans *spans = calloc(1, sizeof *spans);
-    char spill[sizeof spans->spill];
-    if (!spans) return ENOMEM;
-    log->spans = spans;
-    spans->file = -1;
-    spans->is_named = true;
-    spans->synced = 1;
-    spans->queues[APPEND] = spans->queues[REWRITE] = empty;
-    int error = open_note(log);
-    if (error) return error;
-    if (find_spill(settings ? settings : "", spill, sizeof spill)) memcpy(spans->spill, spill, sizeof spill);
-    else spans->is_silent = true;
-    return 0;
-}
-
-int parts_find_span(raftlog *log, const char *path) {
-    uint64_t number;
-    int queue = queue_of(log->spans, path, &number);
-    if (queue < 0) return 0;
-    struct numbers *found = &log->spans->found[queue];
+static int add_number(struct numbers *found, uint64_t number) {
     if (found->count == found->room) {
         size_t room = found->room ? 2 * found->room : 64;
         uint64_t *all = realloc(found->all, room * sizeof *all);
@@ -357,6 +304,45 @@ int parts_find_span(raftlog *log, const char *path) {
     return 0;
 }
 
+static int compare(const void *one, const void *other) {
+    uint64_t a = *(const uint64_t *)one, b = *(const uint64_t *)other;
+    return (a > b) - (a < b);
+}
+
+/* ---- what the other files call */
+
+static void sort(struct numbers *found) {
+    if (found->count) qsort(found->all, found->count, sizeof *found->all, compare);
+}
+
+/* Reads the note that the folder has. */
+static int begin(raftlog *log) {
+    struct parts_spans *spans = calloc(1, sizeof *spans);
+    if (!spans) return ENOMEM;
+    log->spans = spans;
+    spans->file = -1;
+    spans->is_named = true;
+    spans->synced = 1;
+    spans->queues[APPEND] = spans->queues[REWRITE] = empty;
+    return open_note(log);
+}
+
+/* If the second folder isn't known, the note stays until a log file is made, deleted or renamed: then it is removed. */
+int parts_begin_spans(raftlog *log, const char *settings) {
+    char spill[SPILL_ROOM];
+    int error = begin(log);
+    if (error) return error;
+    if (parts_find_spill(settings ? settings : "", spill, sizeof spill)) memcpy(log->spans->spill, spill, sizeof spill);
+    else log->spans->is_silent = true;
+    return 0;
+}
+
+int parts_find_span(raftlog *log, const char *path) {
+    uint64_t number;
+    int queue = queue_of(log->spans, path, &number);
+    return queue < 0 ? 0 : add_number(&log->spans->found[queue], number);
+}
+
 /* A new note is written if there is none, if a crash left it old, or if another program made it stale; but none if a
  * file may be missing, unless the note reports a loss, which is to be remembered. */
 int parts_judge_spans(raftlog *log) {
@@ -366,8 +352,7 @@ int parts_judge_spans(raftlog *log) {
     int error = 0;
     if (spans->is_silent) return 0;
     for (int queue = 0; queue < QUEUES && !error; queue++) {
-        struct numbers *found = &spans->found[queue];
-        if (found->count) qsort(found->all, found->count, sizeof *found->all, compare);
+        sort(&spans->found[queue]);
         if (spans->count) error = report(spans, queue);
     }
     for (int queue = 0; queue < QUEUES && !error; queue++) {
@@ -462,7 +447,39 @@ bool parts_tell_lost(const raftlog *log, char *text, size_t room) {
     return true;
 }
 
-int parts_forget_spans(raftlog *log) { return remove_note(log); }
+/* Finds the log files of a folder, by its path from the log's. One that doesn't exist has none. */
+static int find_numbers(raftlog *log, const char *path) {
+    int fd = openat(log->root, *path ? path : ".", O_RDONLY | O_DIRECTORY | O_NOFOLLOW | O_CLOEXEC);
+    DIR *dir = fd < 0 ? NULL : fdopendir(fd);
+    int error = dir || errno == ENOENT ? 0 : errno;
+    for (struct dirent *entry; dir && !error && (errno = 0, entry = readdir(dir));) {
+        uint64_t number;
+        int queue = queue_of_name(entry->d_name, &number);
+        if (queue >= 0) error = add_number(&log->spans->found[queue], number);
+    }
+    if (dir && !error) error = errno;
+    if (dir) closedir(dir);
+    else if (fd >= 0) close(fd);
+    return error;
+}
+
+/* Notes the files that an opening will read, without a loss. It fails if there is no note. */
+static int renew_note(raftlog *log) {
+    struct parts_spans *spans = log->spans;
+    int error = spans->file < 0 || !spans->count ? ENOENT : find_numbers(log, "");
+    if (!error && *spans->spill) error = find_numbers(log, spans->spill);
+    for (int queue = 0; queue < QUEUES && !error; queue++) {
+        sort(&spans->found[queue]);
+        spans->queues[queue] = span_of(&spans->found[queue]);
+    }
+    return error ? error : write_note(log);
+}
+
+/* If no note can be read and written, there is none afterwards. */
+int parts_accept_spans(raftlog *log) {
+    int error = begin(log);
+    return error || renew_note(log) ? remove_note(log) : 0;
+}
 
 void parts_end_spans(raftlog *log) {
     struct parts_spans *spans = log->spans;

@@ -33,7 +33,9 @@ func OpenWhole(folder, settings string) (*Engine, error) {
 	})
 }
 
-// AcceptMissing accepts what is missing in a folder that nobody has open: Missing no longer reports it.
+// AcceptMissing accepts what is missing in a folder that nobody has open: the note then has the files after the last
+// gap, and Missing reports what is lost after that. Put files back before: one that is put back after is read, but its
+// loss is not noticed.
 func AcceptMissing(folder string) error {
 	path := C.CString(folder)
 	defer C.free(unsafe.Pointer(path))
@@ -45,8 +47,8 @@ func AcceptMissing(folder string) error {
 }
 
 // Missing returns the log files that the opening found to be missing or strays. After a crash or a kill there are none.
-// Later openings report them too, until the files are put back, the note is stale, or the note is gone: AcceptMissing
-// removes it, and so does a write that can make no new one.
+// Later openings report them too, until the files are put back or AcceptMissing accepts the loss; raftlog.h has the
+// details.
 func (e *Engine) Missing() ([]Loss, error) {
 	e.mutex.RLock()
 	defer e.mutex.RUnlock()

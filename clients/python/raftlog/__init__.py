@@ -195,7 +195,9 @@ def survive_bus_errors():
 
 
 def accept_missing(folder):
-    """Accepts what is missing in a folder that nobody has open: `missing` no longer reports it."""
+    """Accepts what is missing in a folder that nobody has open: the note then has the files after the last gap, and
+    `missing` reports what is lost after that. Put files back before: one that is put back after is read, but its loss
+    is not noticed."""
     text = ctypes.create_string_buffer(512)
     code = _C.raftlog_accept_missing(os.fsencode(folder), text, 512)
     if code:

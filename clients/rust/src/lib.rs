@@ -374,7 +374,9 @@ pub struct Loss {
     pub last: u64,
 }
 
-/// Accepts what is missing in a folder that nobody has open: `Engine::missing` no longer reports it.
+/// Accepts what is missing in a folder that nobody has open: the note then has the files after the last gap, and
+/// `Engine::missing` reports what is lost after that. Put files back before: one that is put back after is read, but its
+/// loss is not noticed.
 pub fn accept_missing(folder: impl AsRef<Path>) -> Result<()> {
     let folder = path_text(folder.as_ref())?;
     let mut text = [0u8; 512];

@@ -41,8 +41,8 @@ pub extern "C" fn raft_c_free(alloc: Global, handle: &mut Handle)
     let _log = std::mem::replace(handle, Handle::none()).into_box(alloc);
 }
 
-/// Adds a file that was found at a path: 0; or 1 if the path is no text or the log was not begun,
-/// or 12 for lack of memory. Then what was found before stays.
+/// Adds a file, as it was found at a path. Returns 0; 1 if the path is no text or the log was not
+/// begun; or 12 if memory ran out. After 1 or 12 the files that were added before stay.
 #[unsafe(no_mangle)]
 pub extern "C" fn raft_c_add_file(
     alloc: Global,

@@ -35,7 +35,7 @@ impl Loading {
         }
     }
 
-    /// Adds what was found at a path, and returns a code.
+    /// Adds the file or folder that was found at a path, and returns a code.
     pub(crate) fn add(&mut self, alloc: Global, path: &[u8], found: Found<'_>) -> i32
         ensures value { IsFoundBy path.now found.entry result self.old self.new }
     {

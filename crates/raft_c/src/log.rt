@@ -63,7 +63,7 @@ impl Log {
         }
     }
 
-    /// Adds what was found at a path, and returns a code.
+    /// Adds the file or folder that was found at a path, and returns a code.
     pub(crate) fn add(&mut self, path: &[u8], found: Found<'_>) -> i32
         ensures value { HasAdded path.now found.entry result (Some self.old) (Some self.new) }
     {

@@ -10,9 +10,10 @@ use crate::OpenLog;
 use raft_env::FileSystem;
 
 /// What a sync covers stays. A change that syncs everything, and ends with the code 0, leaves a log
-/// that has not failed and is wholly synced (`covered`). And whatever calls follow and however each
-/// ends, what was durable stays durable. A crash at any moment of the next one leaves it, with a
-/// prefix of what was written since and of what that call has in flight (`stays`).
+/// that has not failed and is wholly synced (`covered`). Durable data stays durable, whichever
+/// calls follow and however each of them ends. A crash at any moment of the next call leaves that
+/// data, followed by a prefix of the batches written since and of those that the call has in flight
+/// (`stays`).
 pub fn what_a_sync_covers_stays<F: FileSystem>(log: &OpenLog<F>)
     ensures covered { (change : Change) (answer : Answer) (new : _) → is_covering change ≡ true
         → HasEnded change (pos 0) log.now.engine new answer

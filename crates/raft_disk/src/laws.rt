@@ -6,8 +6,8 @@ use crate::disk::Disk;
 use crate::mirror::Mirror;
 use raft_memory::MemoryFileSystem;
 
-/// The files are consistent, and of their changes only writes failed, as of files in memory: with that a law of an
-/// engine says when the damage of a crash is detectable.
+/// The files are consistent, and only writes failed among their changes, as for files in memory.
+/// With that a law of an engine says when the damage of a crash is detectable.
 pub fn files_are_consistent<D: Disk>(files: &Mirror<D, MemoryFileSystem>)
     ensures consistent { AreConsistent (mirror_directory files.now) }
     ensures only_writes { OnlyWritesFailedIn (mirror_directory files.now) }

@@ -5,7 +5,7 @@
 //! tears leaves the note before, which is true: a file that it needs is deleted or renamed only
 //! after a later note was synced. A refused note fails no write of the log.
 
-use crate::places::sync_folder;
+use crate::places::{join, sync_folder};
 use crate::root::Root;
 use crate::spans::{MAX_SPILL_LEN, SLOT_LEN, SPANS, Span, SpanReports, Spans, is_note, latest};
 use raft_base::LogQueue;
@@ -33,6 +33,8 @@ pub(crate) struct SpanFile {
     is_named: bool,
     /// Whether no note is written: something else has its name, or no span is known.
     is_silent: bool,
+    /// Whether a note or the log's settings say which second folder the log has, or that it has none.
+    knows_spill: bool,
     spans: Spans,
     count: u64,
     /// The slot of the note that a crash leaves.
@@ -48,6 +50,7 @@ impl SpanFile {
             file: None,
             is_named: true,
             is_silent: false,
+            knows_spill: false,
             spans: Spans::empty(alloc),
             count: 0,
             synced: 1,
@@ -94,14 +97,44 @@ impl SpanFile {
             self.spans = note.spans;
             self.count = note.count;
             self.synced = slot;
+            self.knows_spill = true;
         }
         self.file = Some(file);
         Ok(())
     }
 
+    /// Makes the files that exist in the folders of the note those of the log, of which none is
+    /// missing. Without a note, and if that is refused, there is no note afterwards.
+    pub(crate) fn accept(rt: &HostRuntime, root: &Root) -> io::Result<()> {
+        if let Ok(noted) = SpanFile::open(rt, root) {
+            let mut noted = noted;
+            if noted.renew(rt, root).is_ok() {
+                return Ok(());
+            }
+        }
+        remove_note(rt, root)
+    }
+
+    // Notes the files that an opening will read. It fails if there is no note.
+    fn renew(&mut self, rt: &HostRuntime, root: &Root) -> io::Result<()> {
+        let alloc = rt.alloc();
+        if self.file.is_none() || self.count == 0 {
+            return Err(io::Error::from(ErrorKind::NotFound));
+        }
+        let mut files = Vec::new(alloc);
+        add_files(rt, root, "", &mut files)?;
+        if !self.spans.spill.is_empty() {
+            add_files(rt, root, self.spans.spill.as_str(), &mut files)?;
+        }
+        self.spans.append = Span::of(&self.numbers_of(alloc, &files, LogQueue::Append)?);
+        self.spans.rewrite = Span::of(&self.numbers_of(alloc, &files, LogQueue::Rewrite)?);
+        self.write(rt, root, true)
+    }
+
     /// Notes the second folder that the log's settings name. If a note has no room for its path,
     /// none is written.
     pub(crate) fn see_spill(&mut self, alloc: Global, spill: Option<&str>) -> io::Result<()> {
+        self.knows_spill = true;
         if let Some(spill) = spill {
             self.spans.spill = String::from_str(alloc, spill)?;
             self.is_silent = self.is_silent || spill.len() > MAX_SPILL_LEN;
@@ -109,9 +142,10 @@ impl SpanFile {
         Ok(())
     }
 
-    /// Compares the note with the files that an opening found. Writes a new one if there is none, if
-    /// a crash left it old, or if another program made it stale; but none if a file may be missing,
-    /// unless the note reports a loss, which is to be remembered.
+    /// Compares the note with the files that an opening found. Writes a new note if there is none,
+    /// if a crash left it old, or if another program made it stale. If a file may be missing, it
+    /// writes a note only if the old one reports a loss, so that the loss is remembered. None is written either if there
+    /// are log files in other folders, any of which may be the log's second one.
     pub(crate) fn begin(
         &mut self,
         rt: &HostRuntime,
@@ -126,6 +160,10 @@ impl SpanFile {
                 append: self.spans.append.report(alloc, &append)?,
                 rewrite: self.spans.rewrite.report(alloc, &rewrite)?,
             });
+        }
+        if self.has_unknown(files) {
+            self.is_silent = true;
+            return Ok(());
         }
         let knows_loss = self.knows_loss();
         let (noted_append, noted_rewrite) = (self.spans.append, self.spans.rewrite);
@@ -142,6 +180,14 @@ impl SpanFile {
             let _ = self.write(rt, root, true);
         }
         Ok(())
+    }
+
+    // Whether there are log files of which no note and no setting says if they are the log's.
+    fn has_unknown(&self, files: &[(String, Vec<u8>)]) -> bool {
+        !self.knows_spill
+            && files
+                .iter()
+                .any(|file| self.spans.is_elsewhere(file.0.as_str()))
     }
 
     // The numbers of a queue's files, in ascending order.
@@ -177,9 +223,14 @@ impl SpanFile {
 
     /// Notes and syncs that a file will be made, if it hides that one was missing at the opening. If
     /// that is refused, each next write and sync tries it again. If no note is written, the one
-    /// before is removed; if that is refused, the next change of a name tries it again.
+    /// before is removed; if that is refused, the next change of a name tries it again. None is
+    /// written any more if the file is in another folder than the note counts.
     pub(crate) fn replace(&mut self, rt: &HostRuntime, root: &Root, path: &str) {
+        self.is_silent = self.is_silent || self.spans.is_elsewhere(path);
         let Some((queue, number)) = self.spans.number_at(path) else {
+            if self.is_silent {
+                let _ = self.write_or_remove(rt, root);
+            }
             return;
         };
         if self.is_silent {
@@ -225,8 +276,8 @@ impl SpanFile {
         }
     }
 
-    /// Notes and syncs that a file will get another name. If that is refused, the note is removed;
-    /// it fails if that is refused too.
+    /// Notes and syncs that a file will get another name. If that is refused, a note that reports a
+    /// loss stays, and another one is removed; it fails if that is refused too.
     pub(crate) fn leave(&mut self, rt: &HostRuntime, root: &Root, path: &str) -> io::Result<()> {
         let Some((queue, number)) = self.spans.number_at(path) else {
             return Ok(());
@@ -272,18 +323,19 @@ impl SpanFile {
         self.spans.rewrite.is_dropping = false;
     }
 
-    // A loss that a removed note had is owed to the next one.
+    // A note that reports a loss stays if the next one is refused. It may then report as missing what
+    // a purge drops, but a loss is not forgotten.
     fn write_or_remove(&mut self, rt: &HostRuntime, root: &Root) -> io::Result<()> {
         if self.file.is_none() || (!self.is_silent && self.write(rt, root, true).is_ok()) {
             return Ok(());
         }
+        if !self.is_silent && self.knows_loss() {
+            self.owed = Owed::Loss;
+            return Ok(());
+        }
         remove_note(rt, root)?;
         self.file = None;
-        self.owed = if self.knows_loss() {
-            Owed::Loss
-        } else {
-            Owed::Nothing
-        };
+        self.owed = Owed::Nothing;
         Ok(())
     }
 
@@ -325,8 +377,36 @@ fn may_be_sound(error: &io::Error) -> bool {
     ) || matches!(error.raw_os_error(), Some(23 | 24))
 }
 
+// Adds the paths of what a folder holds, by its path from the log's, without bytes.
+fn add_files(
+    rt: &HostRuntime,
+    root: &Root,
+    folder: &str,
+    files: &mut Vec<(String, Vec<u8>)>,
+) -> io::Result<()> {
+    let alloc = rt.alloc();
+    let place = root.place(alloc, folder)?;
+    let entries = match fs::read_dir(rt, place.as_str()) {
+        Ok(entries) => entries,
+        Err(e) if e.kind() == ErrorKind::NotFound => return Ok(()),
+        Err(e) => return Err(e),
+    };
+    for entry in entries {
+        match entry {
+            Ok(entry) => {
+                let path = join(alloc, folder, entry.file_name())?;
+                files.push((path, Vec::new(alloc)))?;
+            }
+            // A name that is no UTF-8 is no log file's.
+            Err(e) if e.kind() == ErrorKind::InvalidFilename => {}
+            Err(e) => return Err(e),
+        }
+    }
+    Ok(())
+}
+
 /// Removes the note of a folder, so that a crash doesn't bring it back. None may be there.
-pub(crate) fn remove_note(rt: &HostRuntime, root: &Root) -> io::Result<()> {
+fn remove_note(rt: &HostRuntime, root: &Root) -> io::Result<()> {
     let place = root.place(rt.alloc(), SPANS)?;
     match fs::remove_file(rt, place.as_str()) {
         Err(e) if e.kind() != ErrorKind::NotFound => Err(e),

@@ -64,7 +64,8 @@ pub struct SpanReport {
     pub missing: Vec<(u64, u64)>,
     /// The numbers of files that are greater than the last one and do not follow on it.
     pub strays: Vec<u64>,
-    /// The numbers of files that a purge or a close left. Nothing needs them.
+    /// The numbers of files that a purge or a close left, or that an opening passed over. The log
+    /// that is read doesn't need them.
     pub left_over: Vec<u64>,
     /// Files were missing at an earlier opening, and can't be put back. It holds while the note does.
     pub has_lost: bool,
@@ -321,6 +322,11 @@ impl Spans {
         number_of(name_of(path))
     }
 
+    /// Whether a log file's path is in a folder that is neither the log's nor its second one.
+    pub(crate) fn is_elsewhere(&self, path: &str) -> bool {
+        number_of(name_of(path)).is_some() && self.number_at(path).is_none()
+    }
+
     /// A slot with these spans.
     pub(crate) fn slot(&self, alloc: Global, count: u64) -> io::Result<Vec<u8>> {
         let mut slot = Vec::with_capacity(alloc, SLOT_LEN)?;
@@ -374,10 +380,15 @@ fn name_of(path: &str) -> &str {
     rest.strip_prefix('/').unwrap_or(rest)
 }
 
-/// Whether these bytes are those of a file of notes: each slot has none yet, or begins as one.
+/// Whether these bytes are those of a file of notes: one slot has a note, or each has none yet or
+/// begins as one.
 pub(crate) fn is_note(bytes: &[u8]) -> bool {
-    bytes.len() <= 2 * SLOT_LEN
-        && bytes.chunks(SLOT_LEN).all(|slot| slot.starts_with(MAGIC)
+    if bytes.len() > 2 * SLOT_LEN {
+        return false;
+    }
+    let has_note = bytes.chunks(SLOT_LEN).any(|slot| parts_of(slot).is_some());
+    has_note
+        || bytes.chunks(SLOT_LEN).all(|slot| slot.starts_with(MAGIC)
             || slot.iter().all(|byte| *byte == 0))
 }
 
