@@ -10,10 +10,10 @@ pub struct Workers {
 
 ghost use Rattle.raft_builder.specs.Workers.{files_a_chunk, workers_for};
 
-/// The workers of both queues, for so many threads and files. There are no more than files. If the
-/// Rewrite queue has one file, that file is mostly short: it gets a worker of its own, and all
-/// threads read the Append queue. If it has more, both queues share the workers by how many files
-/// they have, and each has at least one. If a queue has no file, the other has all workers.
+/// The workers of both queues, for this number of threads and files. There are no more workers than
+/// files. If the Rewrite queue has one file, that file is mostly short: one extra worker reads it,
+/// and all threads read the Append queue. If it has more, the queues share the workers by their
+/// numbers of files, and each has at least one. If a queue has no file, the other has all workers.
 pub fn workers_for(threads: usize, append: usize, rewrite: usize) -> Workers
     ensures value { result ≡ workers_for threads append rewrite }
 {

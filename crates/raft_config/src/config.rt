@@ -48,9 +48,9 @@ const MAX_SPARE_FILES: u64 = u32::MAX as u64;
 
 /// The settings of an engine. `specs/Config.antt` lists the defaults.
 ///
-/// With `serde` a program can make them a table of its own settings: keys are in kebab case, a key
-/// that is missing has its default, and other keys are passed over. The contracts of `serde` do not
-/// say which settings are read. Those of `raft_settings` do.
+/// With `serde` a program can make them a table of its own settings. Keys are in kebab case. A
+/// missing key has its default, and an unknown key is ignored. The contracts of `serde` do not say
+/// which settings are read. Those of `raft_settings` do.
 #[derive(Debug, PartialEq)]
 pub struct Config {
     /// The folder of the log files. The empty path is the root of the file system.
@@ -68,8 +68,8 @@ pub struct Config {
     pub format_version: Version,
     /// The size at which a log file is full, and a new one is made.
     pub target_file_size: ReadableSize,
-    /// If the Append queue is larger than this, a purge rewrites what is still needed and drops
-    /// files.
+    /// If the Append queue is larger than this, a purge writes again what is still in use, and
+    /// drops files.
     pub purge_threshold: ReadableSize,
     /// The same size for the Rewrite queue. Without it `rewrite_threshold` gives the size.
     pub purge_rewrite_threshold: Option<ReadableSize>,

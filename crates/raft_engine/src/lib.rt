@@ -1,5 +1,5 @@
-//! What a program names of the log, under one name and in the modules of upstream. Only `stats` is
-//! code of its own.
+//! All names of the log that a program needs, in one crate and in the modules of upstream. Only
+//! `stats` is its own code.
 #![tactic(auto)]
 
 pub mod stats;
@@ -56,7 +56,7 @@ pub mod shared {
 
 /// One sync for many threads over a shared engine.
 pub mod tickets {
-    pub use raft_tickets::{Desk, Durable, Front, Naming, Noted, Opened, Ticket, Tickets};
+    pub use raft_shared::{Desk, Durable, Front, Naming, Noted, Opened, Ticket, Tickets};
 }
 
 /// Lists of calls, trials of them with a crash, and all that a crash may leave after them.

@@ -60,7 +60,9 @@ pub struct Stats {
 }
 
 impl Stats {
-    /// The counts of a running engine. It takes one step for each known group, and no file call.
+    /// The counts of a running engine. It takes one step for each known group, and no file call. For
+    /// a shared engine: `Stats::of(shared.engine(), calls)`, or
+    /// `Stats::of(tickets.desk(&rt).shared().engine(), calls)`.
     pub fn of(engine: &Engine<DiskFileSystem>, calls: CallCounts) -> Stats
         ensures calls { result.calls ≡ calls }
     {

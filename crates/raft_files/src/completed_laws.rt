@@ -13,11 +13,11 @@ ghost use Rattle.raft_files.specs.Writer.{HasChanged, IsAppended, IsAppending, I
 ghost use Rattle.raft_files.specs.declared.format.LogFileFormat.{LogFileFormat};
 
 /// A readable record that no failed call brought and that is not stale stays so in every further
-/// call. So calls keep a log of such records if only writes fail: when it is begun, in a new file
-/// or in a renamed one (`begun`), found and cut at the end of its reading (`found`), appended to,
-/// synced and closed, and when a failed append is taken back (`undone`). The records stay so at
-/// each moment of an append (`appending`) and of a cut (`cutting`), after a crash (`restarted`),
-/// and after a cut of such records (`cut`).
+/// call. So calls keep a log of such records if only writes fail. The log may be begun in a new
+/// file or in a renamed one (`begun`), or found and cut at the end of its reading (`found`). It may
+/// be appended to, synced and closed, and a failed append may be taken back (`undone`). The records
+/// stay so at each moment of an append (`appending`) and of a cut (`cutting`), after a crash
+/// (`restarted`), and after a cut of such records (`cut`).
 pub fn failed_calls_add_no_record()
     ensures log { (path : Path) (id : FileId) (format : LogFileFormat) (batches : List Batch)
         (synced at : ℕ) (n : Directory) → HasCompletedLog path id format batches synced at n

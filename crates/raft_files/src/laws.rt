@@ -156,12 +156,12 @@ pub fn a_sealed_file_stays()
         → IsSealed path id batches n × (bytes_at path n ≡ bytes_at path old) }
 {}
 
-/// An opening loses nothing of a log file. While the file is made, while it is cut at the end of
-/// its reading, and while a header is written into an empty file, a crash leaves what it could
-/// leave before. Cut and synced, the file is a log with all its readable batches. A renamed log
-/// file may hold its old bytes: none of these is found under the new name (`renamed`), also while a
-/// new header is written over it (`reusing`). When that is synced the file is a log without batches
-/// (`reused`).
+/// An opening loses nothing of a log file. A crash leaves what it could leave before the opening:
+/// while the file is made, while it is cut at the end of its reading, and while a header is written
+/// into an empty file. Cut and synced, the file is a log with all its readable batches. A renamed
+/// log file may hold its old bytes. None of these is found under the new name (`renamed`), also
+/// while a new header is written over it (`reusing`). Once that header is synced the file is a log
+/// without batches (`reused`).
 pub fn opening_keeps_the_log()
     ensures created { (path : Path) (id : FileId) (batches : List Batch) (synced : ℕ)
         (old n : Directory) → RecoversPrefixAt path id batches synced old → IsOneOf old

@@ -46,10 +46,10 @@ pub fn entries_are_fetched_to_be_written()
         → tables_moved watermark id t items group ≡ t group }
 {}
 
-/// Items are gathered one after the other (`none`, `more`), and each sets something that those
-/// before it do not: an item of another group (`other_group`), or one of the same group that sets
-/// another key, or a key if the other sets entries (`other_key`). All fetched values of a group are
-/// gathered after items that set no key of it (`values`).
+/// Items are gathered one after the other (`none`, `more`). Each sets something that those before
+/// it do not set: it is of another group (`other_group`), or sets another key than those of its
+/// group, or a key if those set entries (`other_key`). All fetched values of a group are gathered
+/// after items that set no key of it (`values`).
 pub fn items_are_gathered_one_by_one()
     ensures none { (watermark : Option ℕ) (owed : Owed) (t : Tables)
         → IsGathered watermark owed t [] }

@@ -67,10 +67,10 @@ pub fn an_atomic_group_may_be_written()
         }) }
 {}
 
-/// Which ids the Rewrite queue has, and that the batches of each atomic group are together in it:
-/// as they were read (`read`), after a batch without a mark (`unmarked`) and after a whole group
-/// (`group`), and without the first batches (`fewer`). A new group has an id from the bound on
-/// (`begun`).
+/// Which ids the Rewrite queue has, and that the batches of each atomic group are together in it.
+/// This holds for the batches as they were read (`read`), after a batch without a mark
+/// (`unmarked`), after a whole group (`group`), and without the first batches (`fewer`). A new
+/// group has an id from the bound on (`begun`).
 pub fn ids_and_groups_of_the_rewrite_queue()
     ensures read { (bound : ℕ) (batches : List Batch) → AreIdsBelow bound batches
         → HasIdsBelow bound batches }

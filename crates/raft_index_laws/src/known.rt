@@ -13,9 +13,9 @@ ghost use Rattle.raft_tables.specs.Tables.{Tables};
 ghost use Rattle.raft_index_laws.specs.AtomicGroup.{bodies_in, last_body, marked, next_mark, open_group, set_by_parts};
 ghost use Rattle.raft_index_laws.specs.Gathering.{IsGathered};
 
-/// What is written to the Rewrite queue again leaves no group known that the tables do not know: a
-/// gathered batch (`gathered`) and the last one of an atomic group (`ended`); one that is not the
-/// last changes nothing of it (`open`).
+/// The Rewrite queue's batches make groups known. A rewriting adds only groups that the tables know
+/// too. That holds for a gathered batch (`gathered`) and for the last batch of an atomic group
+/// (`ended`). An earlier batch of an atomic group adds none (`open`).
 pub fn groups_that_are_written_again_are_known()
     ensures gathered { (blocks : Blocks) (watermark : Option ℕ) (owed : Owed) (t : Tables)
         (items : List PlacedItem) (batches : List Batch) (group : ℕ)

@@ -12,11 +12,11 @@ ghost use Rattle.raft_tables.specs.Tables.{Tables, tables_after, tables_of};
 ghost use Rattle.raft_tables.specs.declared.memtables.MemTables.{MemTables};
 ghost use Rattle.raft_index_laws.specs.DroppingOld.{AreRewrittenBefore};
 
-/// The tables refer to nothing in files of the Rewrite queue from a number on, for example after
-/// its last file. That holds for the tables of batches in files before it (`whole`), after items of
-/// the Append queue (`applied`), for the part that these leave (`left`) and for both joined
-/// (`joined`); and after new places in a file before it (`moved`). So it holds for each later
-/// number (`later`).
+/// The tables refer to nothing in the Rewrite queue's files from a number on, for example after its
+/// last file. That holds for the tables of batches in files before it (`whole`), and after items of
+/// the Append queue (`applied`). It holds for the part that these items leave (`left`), for both
+/// parts joined (`joined`), and after new places in a file before it (`moved`). So it holds for
+/// each greater number (`later`).
 pub fn nothing_is_placed_behind_the_last_file()
     ensures whole { (first : ℕ) (batches : List PlacedBatch) (m : MemTables) → AreWhole batches m
         → Each (λ b. (b.0.seq < first) × Each (λ item. AreInFile Rewrite b.0.seq item.content) b.1)

@@ -23,9 +23,9 @@ ghost use Rattle.raft_index_laws.specs.DroppingOld.{AreRewrittenBefore, AreRewri
 ghost use Rattle.raft_index_laws.specs.Gathering.{IsGathered};
 ghost use Rattle.raft_index_laws.specs.NewFiles.{HasNewFiles};
 
-/// While a purge writes the whole Rewrite queue to new files of it, these hold what is placed
-/// there: after the rotation (`rotated`), a gathered batch (`written`), a batch of an atomic group
-/// (`open`) and the last one of it (`ended`).
+/// While a purge writes the whole Rewrite queue to new files of it, these hold everything that the
+/// tables place in them. That is so after the rotation (`rotated`), after a gathered batch
+/// (`written`), after a batch of an atomic group (`open`) and after its last batch (`ended`).
 pub fn new_files_hold_what_was_written()
     ensures rotated { (blocks : Blocks) (t : Tables) (q : Queues) (first bound : ℕ)
         → AreRewrittenBefore first t → StandTogether (q.rewritten ++ q.rewritten_since)
@@ -67,9 +67,9 @@ pub fn new_files_hold_what_was_written()
         }) }
 {}
 
-/// Unreferenced old files of the Rewrite queue may be dropped if the new ones hold what is placed
-/// in them and everything is synced: the same is found without the first of them (`can`), and the
-/// tables fit (`gone`).
+/// Unreferenced old files of the Rewrite queue may be dropped if everything is synced and the new
+/// files hold everything that the tables place in them. Without the first old files the same is
+/// found (`can`), and the tables fit (`gone`).
 pub fn the_rewrite_queue_may_lose_old_files()
     ensures can { (blocks : Blocks) (numbered : List FileBatch) (owed : Owed) (t : Tables)
         (q : Queues) (first bound : ℕ) (old new : List Batch)

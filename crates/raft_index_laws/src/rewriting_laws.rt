@@ -24,9 +24,9 @@ ghost use Rattle.raft_index_laws.specs.Rewriting.{ArePart, IsMarkIndex, MayAllBe
 ghost use Rattle.raft_records.specs.FileBatches.{FileBatch, batches_of, from_file};
 ghost use Rattle.raft_index_laws.specs.Standing.{AreEntriesPlacedFrom, AreInFileOrder, AreKeysPlacedFrom, EntryStands, OwesNothing, TablesStandFor};
 
-/// What may be written to the Rewrite queue again: a part of a group's entries, after those that
-/// are there (`entries`), and the value of a key (`value`). It changes nothing of what is
-/// recovered, and after it has its new place the tables fit.
+/// These may be written to the Rewrite queue again: a part of a group's entries, after those that
+/// are there (`entries`), and the value of a key (`value`). The recovered contents stay the same.
+/// After the written item has its new place, the tables fit.
 pub fn rewriting_keeps_tables_standing()
     ensures entries { (blocks : Blocks) (x : Contents) (appended : List FileBatch) (owed : Owed)
         (t : Tables) (watermark : Option ℕ) (id : FileId) (group : ℕ) (n : ℕ × EntryPlace)
@@ -81,9 +81,9 @@ pub fn a_rewritten_batch_keeps_tables_standing()
         (tables_moved watermark (record { queue = Rewrite; seq = seq }) t items) }
 {}
 
-/// Owed marks may be written, and are then owed no more: a delete of a key that does not exist
-/// (`deleted`), a compaction to the first existing index, or to one above all (`compacted`), and a
-/// clean (`cleaned`).
+/// Owed marks may be written, and are then no longer owed: a delete of a key that does not exist
+/// (`deleted`), and a clean (`cleaned`). A compaction goes to the first existing index, or to one
+/// above all if there is none (`compacted`).
 pub fn marks_keep_tables_standing()
     ensures deleted { (blocks : Blocks) (x : Contents) (appended : List FileBatch) (owed : Owed)
         (t : Tables) (group : ℕ) (key : List ℕ) → (or_empty (t group)).keys key ≡ None
@@ -109,8 +109,8 @@ pub fn marks_keep_tables_standing()
         (with_marks group (without_clean (owed group)) owed) t }
 {}
 
-/// Files of the Append queue may be dropped if no mark is owed and nothing is placed in them: the
-/// same is recovered without them (`same`), and the tables fit (`gone`).
+/// Files of the Append queue may be dropped if no mark is owed and the tables place nothing in
+/// them. The same is recovered without them (`same`), and the tables fit (`gone`).
 pub fn a_dropped_front_keeps_tables_standing()
     ensures same { (blocks : Blocks) (rewritten : List Batch) (appended : List FileBatch)
         (front : List Batch) (owed : Owed) (t : Tables) (first : ℕ)
@@ -129,9 +129,9 @@ pub fn a_dropped_front_keeps_tables_standing()
         → TablesStandFor blocks (effect rewritten) (from_file first appended) owed t }
 {}
 
-/// While all groups are written to new files of the Rewrite queue again, these hold what is placed
-/// in them: after everything that a group has there was written (`entries`), and after a value
-/// (`value`).
+/// While all groups are written to new files of the Rewrite queue, these hold everything that the
+/// tables place in them. That is so after all entries of a group are written (`entries`), and after
+/// a value (`value`).
 pub fn new_files_hold_what_is_placed_there()
     ensures entries { (blocks : Blocks) (first : ℕ) (x : Contents) (t : Tables)
         (watermark : Option ℕ) (id : FileId) (group : ℕ) (n : ℕ × EntryPlace)
@@ -149,9 +149,9 @@ pub fn new_files_hold_what_is_placed_there()
         (record { group = group; content = Plain (Put key value) })) }
 {}
 
-/// Old files of the Rewrite queue may be dropped if nothing is placed in them and the new ones hold
-/// everything that is placed there: then these hold what the Append queue leaves (`held`), and the
-/// tables fit without the old ones (`gone`).
+/// Old files of the Rewrite queue may be dropped if the tables place nothing in them, and the new
+/// files hold everything that is placed there. Then the new files hold what the Append queue leaves
+/// (`held`), and the tables fit without the old files (`gone`).
 pub fn dropped_old_files_keep_tables_standing()
     ensures held { (blocks : Blocks) (x new : Contents) (appended : List FileBatch) (owed : Owed)
         (t : Tables) (first : ℕ) → HoldsFrom blocks first new t → AreRewrittenFrom first t

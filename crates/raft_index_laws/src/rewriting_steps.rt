@@ -57,8 +57,8 @@ pub fn owed_marks_may_be_written()
         → StandForQueues blocks numbered (λ group. without_pending (owed group)) t q }
 {}
 
-/// Unreferenced files of the Append queue may be dropped if nothing is owed and everything is
-/// synced: the same is found without them (`can`), and the tables fit without the first of them
+/// Unreferenced files of the Append queue may be dropped if no mark is owed and everything is
+/// synced. The same is found without them (`can`), and the tables fit without the first of them
 /// (`gone`).
 pub fn the_append_queue_may_lose_a_front()
     ensures can { (blocks : Blocks) (numbered : List FileBatch) (owed : Owed) (t : Tables)

@@ -31,9 +31,9 @@ pub fn an_opening_gives_tables_that_stand_for_the_queues()
         → AreItemsBelow (2 ^ 64 - 1) (items_of (batches_in blocks batches)) }
 {}
 
-/// These changes of the Append queue keep the tables and the marks fitting: a valid batch that is
-/// written to its last file, applied and noted (`written`), and a sync of it (`synced`) or of the
-/// Rewrite queue (`rewritten_synced`).
+/// The tables and the marks keep fitting in these changes of the queues. A valid batch is written
+/// to the Append queue's last file, applied and noted (`written`). The Append queue is synced
+/// (`synced`), or the Rewrite queue is (`rewritten_synced`).
 pub fn writes_and_syncs_keep_tables_standing()
     ensures written { (blocks : Blocks) (numbered : List FileBatch) (owed : Owed) (t : Tables)
         (q : Queues) (seq : ℕ) (items : List PlacedItem) → Each (λ b. b.0 ≤ seq) numbered

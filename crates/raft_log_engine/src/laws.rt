@@ -66,10 +66,10 @@ pub fn crash_leaves_contents()
     raft_queue_laws::queue::crash_leaves_a_prefix();
 }
 
-/// A crash leaves what an engine keeps: what is durable, and a prefix of what is unsynced. This
-/// holds as long as no call changes its files, also with more batches. For an engine that hasn't
-/// failed, both together are its contents, and all of them are in its files: they are read there
-/// first.
+/// A crash leaves what an engine keeps: the durable batches, and a prefix of the unsynced ones.
+/// This holds as long as no call changes its files, also with more batches. For an engine that
+/// hasn't failed, both together are its contents, and all of them are in its files: they are read
+/// there first.
 pub fn an_engine_recovers_what_it_keeps<F: FileSystem>(engine: &Engine<F>)
     ensures crash { LeavesAllowed (folders_of engine.now) (durable_of engine.now)
         (unsynced_of engine.now) (directory_of engine.now) }

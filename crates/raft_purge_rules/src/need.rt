@@ -33,8 +33,8 @@ fn is_above(queue: QueueUse, threshold: ReadableSize) -> bool
     queue.files > 1 && queue.bytes > threshold.0
 }
 
-/// Whether the Rewrite queue is to be rewritten: it is above its threshold in the same way, and the
-/// garbage among the rewritten entries is more than this ratio, in thousandths.
+/// Whether the Rewrite queue is to be rewritten. It must be above its threshold in the same way,
+/// and more of the rewritten entries must be garbage than this ratio, in thousandths.
 pub fn rewrite_needs_rewrite(
     queue: QueueUse,
     threshold: ReadableSize,

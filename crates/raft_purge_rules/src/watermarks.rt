@@ -4,8 +4,8 @@ ghost use Rattle.raft_purge_rules.specs.Watermarks.{compact_watermark, rewrite_w
 
 use raft_base::FileSeq;
 
-/// Of the files from `first` to `last`, the one at seven tenths, before the last one: data in it or
-/// before it is rewritten.
+/// The rewrite watermark of the files from `first` to `last`: the file at seven tenths of them, at
+/// most the one before the last. Data in it or in a file before it is rewritten.
 pub fn rewrite_watermark(first: FileSeq, last: FileSeq) -> FileSeq
     requires { first ≤ last }
     ensures value { result ≡ rewrite_watermark first last }
@@ -13,8 +13,8 @@ pub fn rewrite_watermark(first: FileSeq, last: FileSeq) -> FileSeq
     watermark(first, last, 7)
 }
 
-/// Of the files from `first` to `last`, the one at two tenths, before the last one: a group that
-/// refers to a file before it is old.
+/// The compact watermark of the files from `first` to `last`: the file at two tenths of them, at
+/// most the one before the last. A group that refers to a file before it is old.
 pub fn compact_watermark(first: FileSeq, last: FileSeq) -> FileSeq
     requires { first ≤ last }
     ensures value { result ≡ compact_watermark first last }

@@ -23,18 +23,21 @@ ghost use Rattle.raft_memory.specs.declared.crash.Choice.{Choice};
 ghost use Rattle.raft_memory.specs.declared.crash.Choice.TheVariants as choice;
 ghost use Rattle.raft_files.specs.declared.format.LogFileFormat.{LogFileFormat};
 
-/// The premise can be met. Storage may leave each consistent file with all its bytes now, with
-/// those of its last sync, or torn: of the places touched since, only the first few hold their
-/// bytes (`allowed`), and untouched bytes are left as they were (`untouched`). If no failed call
-/// brought the records of a file, the damage of a crash is detectable that leaves the first of them
-/// as they are now and after them none that decodes (`first_records`), as a torn file that keeps
-/// those does (`torn`). Zeros do not decode (`zeros`), so for a log with all bytes or those of its
-/// last sync it is detectable (`detectable`). A file that was renamed may hold stale bytes: if
-/// nothing was written since, no record may decode in it (`HasNoStaleRecord`), as in one that never
-/// was renamed (`never_renamed`). For a file in any state the damage is detectable if no call
-/// brought a record except the one that it was to write, and what such an outcome leaves is read as
-/// a prefix of what was read at a moment since the last sync (`own`), as all bytes are
-/// (`read_now`), and those of the last sync (`read_synced`).
+/// The premise can be met. Storage may leave each consistent file in three ways (`allowed`): with
+/// all its bytes now, with those of its last sync, or torn. In a torn file only the first few of
+/// the places touched since the sync hold their bytes. Untouched bytes are left as they were
+/// (`untouched`).
+///
+/// Suppose that no failed call brought the records of a file. Then a crash has detectable damage if
+/// it leaves the first of them as they are now and after them none that decodes (`first_records`).
+/// A torn file that keeps the first ones is such a case (`torn`). Zeros do not decode (`zeros`), so
+/// all bytes, or those of the last sync, are a case too (`detectable`).
+///
+/// A renamed file may hold stale bytes. If nothing was written since, no record may decode in it
+/// (`HasNoStaleRecord`), as in a file that was never renamed (`never_renamed`). For a file in any
+/// state two conditions suffice (`own`). No call brought a record except the one that it was to
+/// write. And the readable records are a prefix of those at a moment since the last sync. All bytes
+/// meet the second one (`read_now`), and so do those of the last sync (`read_synced`).
 pub fn premise_can_be_met()
     ensures allowed { (choices : List Choice) (n : Directory) → NameNoBytes choices
         → AreConsistent n → Leaves n (left_by choices n) }
@@ -80,12 +83,12 @@ pub fn premise_can_be_met()
         → IsReadAsBefore id file file.synced }
 {}
 
-/// The damage of a crash that leaves each file with all its bytes now or those of its last sync is
-/// detectable for a queue under three conditions: only writes failed on its last file, no failed
-/// call brought a record, and nothing in it decodes that it held when it was renamed, if it was
-/// (`detectable`). The same holds for a crash that leaves of the last file the first of its
-/// readable records, and after them none that decodes (`first_records`). Openings of `raft_pipes`
-/// return such queues, and the calls of pipes keep them.
+/// The damage of a crash is detectable for a queue if each file is left with all its bytes now, or
+/// with those of its last sync (`detectable`). There are three conditions. Only writes failed on
+/// its last file. No failed call brought a record. If that file was renamed, nothing decodes that
+/// it held then. The same holds for a crash that leaves of the last file the first of its readable
+/// records, and after them none that decodes (`first_records`). Openings of `raft_pipes` return
+/// such queues, and the calls of pipes keep them.
 pub fn damage_of_a_queue_is_detectable()
     ensures detectable { (queue : LogQueue) (p : PipeState) (folders : Folders)
         (batches : List Batch) (counts : QueueCounts) (n : Directory)

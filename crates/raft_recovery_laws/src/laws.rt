@@ -26,10 +26,10 @@ pub fn valid_batches_are_found()
 {}
 
 /// The Append queue's batches change nothing of the contents that were found with them (`again`).
-/// If batches change nothing of contents, the later ones of them change nothing (`later`); and if
-/// those contents are found with only the later ones, they are found with all (`older`). So a
-/// dropped file may still exist while the files after it do. All hold for any contents with
-/// consecutive entries, as those of the Rewrite queue are (`rewritten`).
+/// If batches change nothing of contents, the later ones of them change nothing (`later`). If those
+/// contents are found with only the later ones, they are found with all (`older`). So a dropped
+/// file may still exist while the files after it do. All of this holds for any contents with
+/// consecutive entries; the Rewrite queue's are such (`rewritten`).
 pub fn older_batches_change_nothing()
     ensures again { (x : Contents) (appended : List Batch) → HasConsecutiveEntries x
         → HaveConsecutiveEntries appended

@@ -11,8 +11,9 @@ ghost use Rattle.raft_recovery_laws.specs.Recovered.{effect, items_of, leaves_ke
 ghost use Rattle.raft_recovery_laws.specs.Rewriting.{ChangesNothing, EachChangesNothing, EachLeft, FitsRewrite, IsSetByAppend};
 
 /// Marks of removals. A delete changes nothing if the key does not exist or the Append queue sets
-/// it (`deleted`), a compaction if no entry below it remains that the Append queue leaves
-/// (`compacted`), a clean if everything that the group has is the Append queue's own (`cleaned`).
+/// it (`deleted`). A compaction changes nothing if no entry below its index remains that the Append
+/// queue leaves (`compacted`). A clean changes nothing if everything that the group has is the
+/// Append queue's own (`cleaned`).
 pub fn marks_change_nothing()
     ensures deleted { (x : Contents) (appended : List Batch) (group : ℕ) (key : List ℕ)
         → (leaves_key appended group key ≡ true → (replay x appended).value group key ≡ None)
@@ -27,8 +28,9 @@ pub fn marks_change_nothing()
         → ChangesNothing x appended (record { group = group; content = Clean }) }
 {}
 
-/// Existing data may be written again: a key with its value, or one that the Append queue sets
-/// (`key`), and entries that fit (`entries`); the mark of an atomic group is no key (`mark`).
+/// Existing data may be written again: a key with its value, or a key that the Append queue sets
+/// (`key`), and entries that fit (`entries`). The mark of an atomic group counts as no key
+/// (`mark`).
 pub fn rewriting_changes_nothing()
     ensures key { (x : Contents) (appended : List Batch) (group : ℕ) (key value : List ℕ)
         → (leaves_key appended group key ≡ true
@@ -92,9 +94,9 @@ pub fn batches_of_such_items_change_nothing()
         → recovered (old ++ group) appended ≡ recovered old appended }
 {}
 
-/// A group is written batch by batch. While it is incomplete a further batch of it changes nothing
-/// (`open`); its last one changes nothing if the group as a whole does not (`last`). So a crash
-/// inside it finds what was found before it.
+/// A group is written batch by batch. A further batch of an incomplete group changes nothing
+/// (`open`). Its last batch changes nothing if the group as a whole changes nothing (`last`). So a
+/// crash inside the group finds the same as a crash before it.
 pub fn a_group_may_be_written_batch_by_batch()
     ensures open { (id : ℕ) (old group appended : List Batch) (batch : Batch)
         → places_in id old ≡ [] → IsTrue (list_all (is_of_group id) group)

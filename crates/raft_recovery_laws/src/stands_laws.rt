@@ -8,10 +8,10 @@ ghost use Rattle.raft_recovery_laws.specs.Recovered.{effect, recovered};
 ghost use Rattle.raft_recovery_laws.specs.Dropping.{HoldsLeft, ShareNoGroup};
 ghost use Rattle.raft_recovery_laws.specs.Stands.{Queues, Stands, found_after_crash, left_by_crash, synced_queues};
 
-/// Every crash, whatever it leaves of the unsynced ends of both queues and of dropped files of the
-/// Append queue, finds the durable contents, with a prefix of the batches written since (`crash`).
-/// Queues that are wholly synced give what is recovered of them, whatever they hold (`opened`). So
-/// after an opening that syncs what a crash left, they give that (`reopened`).
+/// Every crash finds the durable contents, with a prefix of the batches written since (`crash`),
+/// whatever it leaves of the unsynced ends of both queues and of dropped files of the Append queue.
+/// From queues that are wholly synced an opening gets what is recovered of them, whatever they hold
+/// (`opened`). So the same holds after an opening that syncs what a crash left (`reopened`).
 pub fn a_crash_finds_what_the_queues_stand_for()
     ensures crash { (q : Queues) (m : Contents) (i j k : ℕ) → Stands q m
         → found_after_crash q i j k ≡ after_batches m (take k q.appended_since) }
@@ -44,10 +44,10 @@ pub fn steps_of_the_append_queue_keep_contents()
         → Stands (record q { older = drop count q.older }) m }
 {}
 
-/// Steps of the Rewrite queue. A batch that changes nothing of what is recovered with the Append
-/// queue's synced batches may be written (`written`). So what it says of the contents holds for the
-/// synced ones, and the Append queue is synced first. A sync keeps the contents (`synced`), and so
-/// does a drop of old files, after which the same is recovered (`dropped`).
+/// Steps of the Rewrite queue. A batch may be written if it changes nothing of the contents that
+/// are recovered with the Append queue's synced batches (`written`). So the Append queue is synced
+/// first: a batch then repeats only synced contents. A sync keeps the contents (`synced`), and so
+/// does a drop of old files after which the same is recovered (`dropped`).
 pub fn steps_of_the_rewrite_queue_keep_contents()
     ensures written { (q : Queues) (m : Contents) (batch : Batch) → Stands q m
         → HaveConsecutiveEntries (batch ∷ [])
@@ -66,7 +66,7 @@ pub fn steps_of_the_rewrite_queue_keep_contents()
 /// Files are dropped one after the other. If a front of the Append queue may be dropped, any first
 /// part of it may be gone while the rest still exists (`front`). The same holds for old files of
 /// the Rewrite queue, if no atomic group has batches on both sides of their end (`old`). Older
-/// existing batches are as good as synced ones (`standing`).
+/// batches that still exist count as synced ones (`standing`).
 pub fn files_may_go_one_after_the_other()
     ensures standing { (q : Queues) (m : Contents) → Stands q m
         → Stands (record q { older = []; appended = q.older ++ q.appended }) m }

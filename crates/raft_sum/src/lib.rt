@@ -1,4 +1,4 @@
-//! Checksums (SHA-256) of a log's contents, which don't tell how the contents are laid out in files.
+//! Checksums (SHA-256) of a log's contents, which don't depend on the layout of the files.
 #![tactic(auto)]
 
 mod group;
