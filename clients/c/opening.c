@@ -239,6 +239,12 @@ static int make_absolute(raftlog *log) {
     return 0;
 }
 
+/* Fails at the folder itself, which may not be there or open yet. */
+static int fail_here(raftlog *log, struct found *found, int error) {
+    make_absolute(log);
+    return fail(found, log->folder, error);
+}
+
 /* A link that leads to the log's folder is followed, once. */
 static int hold_own(raftlog *log) {
     parts_pause_forks();
@@ -283,7 +289,7 @@ static int find(raftlog *log, const char *settings, bool refuses_lost, struct fo
     if (!error) error = parts_sync_name(log->folder);
     if (!error) error = hold_own(log);
     if (!error) error = make_absolute(log);
-    int code = error ? fail(found, log->folder, error) : lock_folder(log, found);
+    int code = error ? fail_here(log, found, error) : lock_folder(log, found);
     if (!code) code = look_for_mark(log, found);
     if (code) return code;
     heap_begin(&log->heap, &log->lock);
@@ -304,7 +310,7 @@ int parts_accept(raftlog *log, char *text, size_t room) {
     struct found found = {.text = text, .text_room = room};
     int error = hold_own(log);
     if (!error) error = make_absolute(log);
-    int code = error ? fail(&found, log->folder, error) : lock_folder(log, &found);
+    int code = error ? fail_here(log, &found, error) : lock_folder(log, &found);
     if (!code && (error = parts_accept_spans(log))) code = fail_at(log, &found, "SPANS", error);
     return code;
 }

@@ -183,8 +183,8 @@ static const char *kind_text(int kind) {
 
 void parts_break(raftlog *log, const char *why) {
     if (*log->broken) return;
-    snprintf(log->broken, sizeof log->broken,
-             "%.300s; the log has failed: close it, and open its folder again", why);
+    const char *then = log->is_opening ? "" : "; the log has failed: close it, and open its folder again";
+    snprintf(log->broken, sizeof log->broken, "%.300s%s", why, then);
 }
 
 /* What the system's error says here, if that is more than its own text. */

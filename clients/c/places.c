@@ -120,6 +120,7 @@ static void spill_is_link(void) {
     CHECK(put_key(log, 'k', 0) == 0 && raftlog_close(log) == 0);
     CHECK(!rename("spilled/spill", "elsewhere") && !symlink("../elsewhere", "spilled/spill"));
     CHECK(raftlog_open("spilled", SPILL, &log, text, sizeof text) == RAFTLOG_IO && strstr(text, "spill: it is a link"));
+    CHECK(!strstr(text, "close it"));
     CHECK(!unlink("spilled/spill") && !rename("elsewhere", "spilled/spill"));
     CHECK(count_in("spilled", SPILL, 'k', 1) == 1);
 }
@@ -188,6 +189,13 @@ static void texts(const char *here) {
     CHECK(!strcmp(text, place));
     CHECK(raftlog_open("/proc/none/x", NULL, &other, text, sizeof text) == RAFTLOG_FOLDER);
     CHECK(!strcmp(text, "/proc/none/x: No such file or directory"));
+    run("touch %s", "plain", "");
+    CHECK(raftlog_open("plain/x", NULL, &other, text, sizeof text) == RAFTLOG_FOLDER);
+    snprintf(place, sizeof place, "%s/plain/x: Not a directory", here);
+    CHECK(!strcmp(text, place));
+    CHECK(raftlog_accept_missing("none", text, sizeof text) == RAFTLOG_FOLDER);
+    snprintf(place, sizeof place, "%s/none: No such file or directory", here);
+    CHECK(!strcmp(text, place));
 }
 
 int main(int argc, char **argv) {

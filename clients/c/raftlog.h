@@ -29,9 +29,9 @@
  *
  * Folders. The log holds its folder open until the close, and reaches its files through it. So it continues in its own
  * folder if the folder is moved, if another one gets its name, or if the program changes its working directory. A link
- * that leads to the folder is followed once, at the opening; below the folder no link is followed. The folder is
- * locked by its file LOCK and, if the file system can do that, by itself. Before the log makes, renames or deletes a
- * file it compares LOCK with the file that it locked. If LOCK was removed, the log locks a new one, and fails as
+ * that leads to the folder is followed once, at the opening; below the folder no link but LOCK is followed. The folder
+ * is locked by its file LOCK and, if the file system can do that, by itself. Before the log makes, renames or deletes
+ * a file it compares LOCK with the file that it locked. If LOCK was removed, the log locks a new one, and fails as
  * RAFTLOG_IO if another process has that. If another program deleted the file that is written, the next sync fails as
  * RAFTLOG_IO.
  *
@@ -120,7 +120,8 @@ enum {
     RAFTLOG_ABSENT = 20,
     /* The folder is open already. The text names the process, if the system tells it. */
     RAFTLOG_IN_USE = 30,
-    /* A log file's name in the folder is that of a link, a device or a file with several names, or LOCK is a device. */
+    /* A log file's name in the folder is that of a link, a folder, a device or a file with several names, or LOCK is a
+     * device. */
     RAFTLOG_NOT_PLAIN = 31,
     /* The folder, or its note SPANS, cannot be made, locked or read. */
     RAFTLOG_FOLDER = 32,

@@ -69,7 +69,7 @@ const (
 	Stale      Code = 18 // some numbers of a WriteOnce are greater than those that their groups keep, and others aren't
 	absent     Code = 20
 	InUse      Code = 30 // the folder is open already; the message names the process
-	NotPlain   Code = 31 // a log file's name belongs to a link, a device or a file with several names
+	NotPlain   Code = 31 // a log file's name belongs to a link, a folder, a device or a file with several names
 	Folder     Code = 32 // the folder can't be made, locked or read
 	Lost       Code = 33 // a log file is missing or was, or isn't the log's (OpenWhole)
 )

@@ -55,7 +55,7 @@ LZ4 = 13           # the log has a compressed record, which can't be read
 STALE_NUMBER = 18  # some numbers of a write_once are greater than those that their groups keep, and others aren't
 ABSENT = 20        # no failure: a call returns None
 IN_USE = 30        # the folder is open already; the text names the process
-NOT_PLAIN = 31     # a log file's name belongs to a link, a device or a file with several names
+NOT_PLAIN = 31     # a log file's name belongs to a link, a folder, a device or a file with several names
 FOLDER = 32        # the folder can't be made, locked or read
 LOST = 33          # a log file is missing or was, or isn't the log's (whole=True)
 

@@ -55,7 +55,7 @@ pub enum Code {
     StaleNumber,
     /// The folder is open already; the message names the process.
     InUse,
-    /// A log file's name belongs to a link, a device or a file with several names.
+    /// A log file's name belongs to a link, a folder, a device or a file with several names.
     NotPlain,
     /// The folder can't be made, locked or read; the message has the cause.
     Folder,
