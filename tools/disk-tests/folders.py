@@ -63,3 +63,9 @@ def records_of(data):
         found.append((at, size % 256, data[at + 16 : at + footer], data[at + footer : at + length]))
         at += length
     return found, at
+
+
+def record(kind, block, footer):
+    """The bytes of a record; its block is compressed if the kind is 1."""
+    length = 16 + len(block) + len(footer)
+    return (256 * length + kind).to_bytes(8, "big") + (16 + len(block)).to_bytes(8, "big") + block + footer

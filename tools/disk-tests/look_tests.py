@@ -1,9 +1,10 @@
 #!/usr/bin/env python3
 """What raftctl's commands do to a real folder: those that look leave it as it was, and none loses evidence.
 
-    tools/disk-tests/look_tests.py crates/raftctl/out/raftctl [--without NAME..]
+    tools/disk-tests/look_tests.py crates/raftctl/out/raftctl [--all] [--without NAME..]
 
-Prints a line for each case that is wrong, and how many there were. Ends with status 1 where one is. `--without` leaves out
+Prints a line for each case that is wrong, and how many there were. The status is 1 if one is wrong. `--all` also runs
+`rescue_tests.py` and `watch_tests.py`, at full size: together they try each command of raftctl. `--without` leaves out
 cases by the names of their functions, such as `big_tails`, which takes minutes if the program is not optimized.
 """
 import argparse
@@ -35,6 +36,7 @@ STAMP = os.path.join(os.path.dirname(os.path.dirname(os.path.abspath(__file__)))
 HEAD = bytes([0, 0, 0, 0, 0, 0x20, 0, 0, 0, 0, 0, 0, 0, 0, 0x1F, 0xF0])
 # A record of a key and a value of 40 bytes has fewer bytes.
 RECORD = 80
+OTHERS = ["rescue_tests.py", "watch_tests.py"]
 LOOKS = [
     "get 1 5", "get 1 none", "list", "list 3 --limit 2", "scan 1 --from 2 --to 3 --reverse --json",
     "entry 7 2", "entry 7 9", "entries 7", "groups", "stat", "dump", "dump 0000000000000003.raftlog",
@@ -397,6 +399,7 @@ class Tests(Losses, Plans, Mends, Notes, Sources, Dumps, Calls, Streams, Limits)
 def main():
     arguments = argparse.ArgumentParser(description=__doc__, formatter_class=argparse.RawDescriptionHelpFormatter)
     arguments.add_argument("program")
+    arguments.add_argument("--all", action="store_true")
     arguments.add_argument("--without", nargs="+", default=[])
     asked = arguments.parse_args()
     for name in asked.without:
@@ -478,8 +481,11 @@ def main():
         tests.closed_streams()
         tests.limited_output()
         tests.limited_changes()
-    print(f"{tests.tried} cases, {tests.bad} wrong")
-    return 1 if tests.bad else 0
+    print(f"{tests.tried} cases, {tests.bad} wrong", flush=True)
+    here = os.path.dirname(os.path.abspath(__file__))
+    failed = [name for name in (OTHERS if asked.all else [])
+              if subprocess.run([sys.executable, "-B", os.path.join(here, name), asked.program]).returncode]
+    return 1 if tests.bad or failed else 0
 
 
 if __name__ == "__main__":

@@ -1,12 +1,12 @@
 #!/usr/bin/env python3
 """Tries the commands of raftctl that bring data back or take it over, on logs of which each record is known.
 
-    tools/disk-tests/rescue_tests.py crates/raftctl/out/raftctl [--logs N] [--compressed N] [--seed N]
+    tools/disk-tests/rescue_tests.py crates/raftctl/out/raftctl [--logs N] [--compressed N] [--corrupted N] [--seed N]
 
 `sum`, `import`, `salvage`, `truncate`, `lines` and `append` of several groups. N random logs are dumped and imported (200
 without the word), and N have their entries compressed by Python's lz4 or by liblz4, as raft-engine writes them, and are
-imported from their folder (1,000 without the word). Prints what went wrong, and how much was tried; the status is 1 if
-something did.
+imported from their folder (1,000 without the word). N corrupted blocks have to be read or refused as by liblz4 (200
+without the word). Prints what went wrong, and how much was tried; the status is 1 if something did.
 """
 import argparse
 import ctypes
@@ -19,7 +19,8 @@ import sys
 import tempfile
 import zlib
 
-from folders import HEADER, add, bytes_of, flip, logs_in, records_of, state_of
+from block_cases import Blocks
+from folders import HEADER, add, bytes_of, flip, logs_in, record, records_of, state_of
 from gap_cases import Gaps
 
 GROUPS = (1, 2, 3)
@@ -42,11 +43,6 @@ def compressor():
         return len(data).to_bytes(4, "little") + out.raw[:length]
 
     return compress_by_library, "liblz4"
-
-
-def record(kind, block, footer):
-    length = 16 + len(block) + len(footer)
-    return (256 * length + kind).to_bytes(8, "big") + (16 + len(block)).to_bytes(8, "big") + block + footer
 
 
 def compressed(data, compress, least):
@@ -93,7 +89,7 @@ class Model:
         return found
 
 
-class Tests(Gaps):
+class Tests(Gaps, Blocks):
     def __init__(self, program, work, seed):
         self.program, self.work, self.random = os.path.abspath(program), work, random.Random(seed)
         self.tried = self.bad = 0
@@ -415,6 +411,7 @@ def main():
     arguments.add_argument("program")
     arguments.add_argument("--logs", type=int, default=200)
     arguments.add_argument("--compressed", type=int, default=1000)
+    arguments.add_argument("--corrupted", type=int, default=200)
     arguments.add_argument("--seed", type=int, default=1)
     asked = arguments.parse_args()
     with tempfile.TemporaryDirectory() as work:
@@ -439,6 +436,7 @@ def main():
         tests.statuses()
         tests.imports(asked.logs)
         tests.compressed(asked.compressed)
+        tests.corrupted(asked.corrupted, compressor()[0])
     print(f"{tests.tried} cases, {tests.bad} wrong")
     return 1 if tests.bad else 0
 
