@@ -1,13 +1,9 @@
--- States that follow one another, and batches that move a group's state on.
-use Rattle.std.proofs.Common.{◌≡◌, ◌⊎◌, ◌∙◌, ◌<◌, ◌++◌, ◌∷◌, ℕ, zero, suc, true, false, Bool, List, [], arith, inl, inr, refl, sym, subst}
+-- States that follow one another.
+use Rattle.std.proofs.Common.{◌≡◌, ◌⊎◌, ◌∙◌, ◌<◌, ℕ, true, arith, inl, inr, refl, sym}
 use Rattle.std.proofs.lemmas.Bool.{and_from, and_parts, or_cases, or_left, or_right}
 use Rattle.std.proofs.lemmas.Bool.Decides.{nat_tests}
-use Rattle.std.specs.Prelude.{◌==◌, ◌&&◌, ◌||◌, nat_lt, take}
-use Rattle.raft_records.specs.Contents.{Contents, after_batch, after_batches}
-use Rattle.raft_records.specs.Item.{Batch}
-use Rattle.raft_log_engine.specs.Group.{chosen_of}
-use Rattle.raft_vote.specs.HardState.{may_follow, state_in}
-use Rattle.raft_vote.specs.Stays.{AllMoveOn}
+use Rattle.std.specs.Prelude.{◌==◌, ◌&&◌, ◌||◌, nat_lt}
+use Rattle.raft_vote.specs.HardState.{may_follow}
 use Rattle.raft_vote.specs.declared.hard_state.HardState.{HardState}
 
 -- Numbers.
@@ -78,43 +74,3 @@ same_vote_in_term s t is same voted = elim (follows s t is) [
   | inr (term, inl none) ↦ absurd (voted none)
   | inr (term, inr vote) ↦ sym vote
 ]
-
--- Batches.
-
--- none of no batches is in flight
-pub none_chosen : (m : Contents) (written : List Bool) → chosen_of m written [] ≡ []
-none_chosen m [] = refl
-none_chosen m (true ∷ written) = refl
-none_chosen m (false ∷ written) = refl
-
-take_nothing : (k : ℕ) → take {A = Batch} k [] ≡ []
-take_nothing zero = refl
-take_nothing (suc k) = refl
-
-module _ (group : ℕ) (s : HardState) where
-  -- the group's state is s or one that may follow it
-  abbrev pub Kept : Contents → Type 0
-  Kept m = may_follow s (state_in group m) ≡ true
-
-  -- after each first part of batches that move it on
-  pub kept_along : (m : Contents) (batches : List Batch) → Kept m → AllMoveOn group m batches → (k : ℕ) → Kept (after_batches m (take k batches))
-  kept_along m batches kept on zero = kept
-  kept_along m [] kept on (suc k) = kept
-  kept_along m (b ∷ batches) kept on (suc k) = kept_along (after_batch m b) batches (follows_on s (state_in group m) (state_in group (after_batch m b)) kept on.0) on.1 k
-
-  pub kept_after : (m : Contents) (batches : List Batch) → Kept m → AllMoveOn group m batches → Kept (after_batches m batches)
-  kept_after m [] kept on = kept
-  kept_after m (b ∷ batches) kept on = kept_after (after_batch m b) batches (follows_on s (state_in group m) (state_in group (after_batch m b)) kept on.0) on.1
-
-  -- after each first part of two lists, if so of the first list, and of the second one after it
-  pub kept_in_both : (m : Contents) (xs ys : List Batch) → ((k : ℕ) → Kept (after_batches m (take k xs))) → ((k : ℕ) → Kept (after_batches (after_batches m xs) (take k ys))) → (k : ℕ) → Kept (after_batches m (take k (xs ++ ys)))
-  kept_in_both m [] ys first next k = next k
-  kept_in_both m (x ∷ xs) ys first next zero = first zero
-  kept_in_both m (x ∷ xs) ys first next (suc k) = kept_in_both (after_batch m x) xs ys (λ n. first (suc n)) next k
-
-  -- after each first part of no batches
-  pub kept_in_none : (m : Contents) → Kept m → (k : ℕ) → Kept (after_batches m (take k []))
-  kept_in_none m kept k = subst (λ (l : List Batch). Kept (after_batches m l)) (sym (take_nothing k)) kept
-
-  pub kept_if_none : (m : Contents) → Kept m → (written : List Bool) (k : ℕ) → Kept (after_batches m (take k (chosen_of m written [])))
-  kept_if_none m kept written k = subst (λ (l : List Batch). Kept (after_batches m (take k l))) (sym (none_chosen m written)) (kept_in_none m kept k)

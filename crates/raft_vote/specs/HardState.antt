@@ -50,6 +50,10 @@ is_no_state (Some bytes) = is_none (read_state bytes)
 abbrev pub state_in : ℕ → Contents → HardState
 state_in group m = state_of_value (m.value group state_key)
 
+-- a group has this state, or one that may follow it
+abbrev pub has_reached : ℕ → HardState → Contents → Bool
+has_reached group state m = may_follow state (state_in group m)
+
 -- a group has a value at the key that is no state
 abbrev pub is_broken : ℕ → Contents → Bool
 is_broken group m = is_no_state (m.value group state_key)

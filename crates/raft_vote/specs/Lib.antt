@@ -1,3 +1,2 @@
 pub mod HardState
-pub mod EachCall
 pub mod Stays

@@ -2,7 +2,7 @@
 ghost use Rattle.raft_vote.specs.Stays.{NodesVoteOnce, OtherCallsLeaveIt, OtherWritesLeaveIt, SavedStatesStay};
 
 use raft_log_engine::FileSystem;
-use raft_world::laws::the_log_is_safe;
+use raft_world::laws::{calls_keep, what_calls_keep_is_found};
 
 /// If an engine hasn't failed and all is synced, each later opening that returns `Ok` finds the
 /// group's state or one that may follow it, and each later engine has it. That needs two premises:
@@ -10,7 +10,7 @@ use raft_world::laws::the_log_is_safe;
 pub fn a_saved_state_stays<F: FileSystem>()
     ensures { SavedStatesStay F.FileSystem }
 {
-    the_log_is_safe::<F>();
+    what_calls_keep_is_found::<F>();
 }
 
 /// A node that responds only after `save` returned `Ok` votes once in a term. The first save gives
@@ -26,4 +26,6 @@ pub fn a_node_votes_once<F: FileSystem>()
 pub fn other_calls_leave_it<F: FileSystem>()
     ensures calls { OtherCallsLeaveIt F.FileSystem }
     ensures write { OtherWritesLeaveIt F.FileSystem }
-{}
+{
+    calls_keep::<F>();
+}

@@ -9,13 +9,13 @@ ghost use Rattle.raft_vote.specs.Stays.{OnlyMovesOn, Stays};
 use crate::hard_state::{HardState, is_read_back};
 use crate::laws::a_saved_state_stays;
 use raft_log_engine::{Engine, Fault, FileSystem, LogBatch};
-use raft_world::laws::calls_have_effects;
+use raft_world::laws::{calls_have_effects, calls_keep};
 use std::alloc::Global;
 
 /// Saves a group's term and vote with a sync, and changes nothing else of the contents. After `Ok`
 /// the node may respond: each later opening that returns `Ok` finds this state or one that may
 /// follow it. So it finds no older term, and no other vote in this term. That needs two premises:
-/// each call since leaves the group's state or moves it on (`MovesOn`), and the damage of each crash
+/// each call since leaves the group's state or moves it on (`Keeps`), and the damage of each crash
 /// is detectable.
 ///
 /// It fails as `InvalidArgument` if this state may not follow the one that the group has, and
@@ -45,6 +45,7 @@ pub fn save<F: FileSystem>(
 {
     a_saved_state_stays::<F>();
     calls_have_effects::<F>();
+    calls_keep::<F>();
     is_read_back(state);
     if !load(engine, group)?.may_come_to(state) {
         return Err(Fault::InvalidArgument("a term goes back, or a second vote in it"));

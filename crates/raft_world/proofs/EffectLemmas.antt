@@ -4,8 +4,7 @@ use Rattle.std.specs.Prelude.{Result, Ok, Err, is_none, is_ok, if◌then◌else�
 use Rattle.std.specs.List.{AllByRecursion}
 use Rattle.std.proofs.lemmas.Bool.{cases_Bool}
 use Rattle.raft_base.specs.declared.errors.Fault.{Fault}
-use Rattle.raft_base.specs.declared.errors.Fault.TheVariants as fault
-use Rattle.raft_records.specs.Contents.{Contents}
+use Rattle.raft_records.specs.Contents.{Contents, after_batches}
 use Rattle.raft_records.specs.Item.{Batch}
 use Rattle.raft_records.specs.Validity.{batch_refusal}
 use Rattle.raft_env.specs.Directory.{Directory}
@@ -14,10 +13,9 @@ use Rattle.raft_env.specs.declared.env.FileSystem.{Ghosts}
 use Rattle.raft_crash_laws.specs.Contents.{found_contents}
 use Rattle.raft_crash_laws.specs.Crash.{LeavesAllowed, RecoversContents, pending_of, written_batch}
 use Rattle.raft_log_engine.specs.Advance.{Advances, ChangesOnlyItsLog, state_of}
-use Rattle.raft_log_engine.specs.Calls.{IsWrite}
 use Rattle.raft_log_engine.specs.Cause.{plain_part}
-use Rattle.raft_log_engine.specs.Durability.{Durability, Progresses, StaysFailed, accepted_by, covered_by, durability_of}
-use Rattle.raft_log_engine.specs.Engine.{begun_of, contents_of, directory_of, durable_of, folders_of, found_of, has_failed, moments_of, queue_of, target_size_of, unsynced_of}
+use Rattle.raft_log_engine.specs.Durability.{Durability, Progresses, StaysFailed, accepted_by, after_call, covered_by, durability_of}
+use Rattle.raft_log_engine.specs.Engine.{base_of, begun_of, contents_of, directory_of, durable_of, folders_of, found_of, has_failed, moments_of, queue_of, target_size_of, unsynced_of}
 use Rattle.raft_log_engine.specs.Group.{LeavesChoice, chosen_of, group_state_of}
 use Rattle.raft_log_engine.specs.Once.{acting_batch}
 use Rattle.raft_log_engine.specs.Reads.{compact_batch}
@@ -29,8 +27,9 @@ use Rattle.raft_log_engine.specs.Opening.{Opens}
 use Rattle.raft_log_engine.specs.declared.engine.Refused.{Refused}
 use Rattle.raft_world.specs.Call.{Ends, HasEffect, MayFollow}
 use Rattle.raft_world.specs.Happens.{HasOpened}
-use Rattle.raft_world.specs.Effects.{ArmingHasNoEffect, CloseEnds, CompactionHasEffect, GiveUpEnds, KillEnds, PurgeHasEffect, ReadHasNoEffect, ReopenEnds, SyncHasEffect, WriteGroupHasEffect, WriteHasEffect, WriteOnceHasEffect, no_effect, write_effect}
-use Rattle.raft_world.proofs.NumberLemmas.{none_chosen, none_follow}
+use Rattle.raft_world.specs.Effects.{ArmingHasNoEffect, CloseEnds, CompactionHasEffect, EffectStoodBefore, EffectSyncsAll, GiveUpEnds, KillEnds, NothingHasNoEffect, OpeningMakesAnew, PurgeHasEffect, ReadHasNoEffect, ReopenEnds, SyncHasEffect, WriteGroupHasEffect, WriteHasEffect, WriteOnceHasEffect, no_effect}
+use Rattle.raft_world.proofs.LedgerLemmas.{none_chosen}
+use Rattle.raft_world.proofs.NumberLemmas.{none_follow}
 use Rattle.raft_world.proofs.PlainLemmas.{accepted_follow, compact_follows, once_follows, part_plain, parts_follow, plain_follows}
 
 -- what holds at each moment does so in other words
@@ -81,15 +80,11 @@ module _ {F H R W : Type 0} (g : Ghosts F H R W) where
         flights = λ alive choice. chosen_one (contents_of old) batch choice flight;
       }
 
-  pub write_by_clauses : (batch rest : Batch) (sync : Bool) (old new : Engine F H R W g) (result : Result ℕ Fault) → IsWrite batch rest sync old new result
-      → Advances (accepted_by result (written_batch (plain_part batch))) (covered_by result sync) (pending_of (contents_of old) (plain_part batch)) (state_of old) (state_of new) → HasEffect (write_effect (plain_part batch) sync result) old new
-  write_by_clauses batch rest sync old new result call plain =
+  pub write_has_effect : WriteHasEffect g
+  write_has_effect batch rest sync old new result call plain =
       let part = plain_part batch in
       let follow = plain_follows (contents_of old) part (part_plain batch) in
       advance_has_effect part (accepted_by result (written_batch part)) (covered_by result sync) old new plain (λ gone. (call.unchanged gone).0) (accepted_one (contents_of old) part result follow) follow
-
-  pub write_has_effect : WriteHasEffect g
-  write_has_effect batch rest sync old new result write = write_by_clauses batch rest sync old new result write.call write.plain
 
   pub write_once_has_effect : WriteOnceHasEffect g
   write_once_has_effect batch rest pairs sync old new result numbers write =
@@ -179,8 +174,29 @@ module _ {F H R W : Type 0} (g : Ghosts F H R W) where
   pub read_has_no_effect : ReadHasNoEffect g
   read_has_no_effect old new read = reads_only old new read.files read.moments read.folders read.state read.begun
 
+  pub nothing_has_no_effect : NothingHasNoEffect g
+  nothing_has_no_effect e = reads_only e e refl refl refl refl refl
+
   pub arming_has_no_effect : ArmingHasNoEffect g
   arming_has_no_effect old new armed = reads_only old new armed.files armed.moments armed.folders armed.state armed.begun
+
+  -- Any effect.
+
+  pub effect_syncs_all : EffectSyncsAll g
+  effect_syncs_all effect old new has syncs = elim has.progress [
+    | inl none ↦ let clash : true ≡ false = sym syncs ∙ none.1 in absurd cc
+    | inr (inl done) ↦
+        let is : durability_of new ≡ after_call effect.accepts true (durability_of old) = done.1 ∙ ap (λ (b : Bool). after_call effect.accepts b (durability_of old)) syncs in
+        let none : unsynced_of new ≡ [] = ap (λ (d : Durability). d.unsynced) is in
+        ((ap (after_batches (found_of new)) (sym (append-nil (base_of new)) ∙ ap (λ (l : List Batch). base_of new ++ l) (sym none)), none), ap (λ (d : Durability). d.failed) is ∙ done.0)
+    | inr (inr torn) ↦ let clash : true ≡ false = sym syncs ∙ torn.2 in absurd cc
+  ]
+
+  pub stood_before : EffectStoodBefore g
+  stood_before effect old new has stands = elim (cases_Bool (has_failed old)) [
+    | inl gone ↦ let clash : true ≡ false = sym (has.rests gone).0 ∙ stands in absurd cc
+    | inr alive ↦ alive
+  ]
 
   -- Closes.
 
@@ -222,6 +238,9 @@ module _ {F H R W : Type 0} (g : Ghosts F H R W) where
   ends_by old files any_moment = record { any_moment = any_moment }
 
   -- Openings.
+
+  pub opening_makes_anew : OpeningMakesAnew g
+  opening_makes_anew config files e opens = let new = opens.opened.ok in (new.folders_are, new.synced, new.stands)
 
   pub opened_by : (config : Config) (files : F) (answer : Result (Engine F H R W g) (Refused F)) → Opens config files answer → HasOpened g (folders_in config) config files answer
   opened_by config files answer opens = record { same = refl; opens = opens }

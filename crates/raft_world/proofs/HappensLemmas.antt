@@ -1,7 +1,7 @@
 -- What a log keeps, whatever happens.
-use Rattle.std.proofs.Common.{◌≡◌, ◌⊎◌, ◌∙◌, ◌++◌, ◌∷◌, ℕ, zero, suc, true, false, Bool, List, [], append-nil, append_assoc, inl, inr, refl, sym, ap, subst}
+use Rattle.std.proofs.Common.{◌≡◌, ◌⊎◌, ◌∙◌, ◌++◌, ◌∷◌, true, false, Bool, List, [], append-nil, append_assoc, inl, inr, refl, sym, ap, subst}
 use Rattle.std.proofs.lemmas.Bool.{cases_Bool}
-use Rattle.std.specs.Prelude.{Result, Ok, Err, take}
+use Rattle.std.specs.Prelude.{Result, Ok, Err}
 use Rattle.std.specs.List.{AllByRecursion}
 use Rattle.std.proofs.Props.{props}
 use Rattle.std.proofs.Math.Logic.{∥∥₁_elim, ∥∥₁_map, ∥∥₁_prop}
@@ -40,7 +40,7 @@ use Rattle.raft_world.proofs.UntouchedLemmas.{contents_stay, readable_stays, sti
 use Rattle.raft_config.proofs.ConfigLemmas.{no_contradiction}
 use Rattle.raft_world.specs.Ledger.{Effect, MayRecover, Ledger, MayFind, after_effect, all_durable, interrupted, durable_contents, accepted_contents, after_crash, starts_with}
 use Rattle.raft_world.specs.Happens.{AreDetectable, FindsOnly, Happens, HasCrashed, HasOpened, Holds, IsAfterCrash, IsMoment, IsMomentOfOpening, IsTolerant, LeavesLog, Node, Running, Inside, Down, Begins, BeginsWith, Opened, OpeningFailed, Called, Failed, Rested, Closed, Reopened, GivenUp, Restarted, Untouched, InsideCall, InsideClose, InsideOpening, Crashed, files_of}
-use Rattle.raft_world.proofs.LedgerLemmas.{after-append, after_accepting, all_durable_accepted, may_find_accepted, may_find_left}
+use Rattle.raft_world.proofs.LedgerLemmas.{after-append, after_accepting, all_durable_accepted, may_find_accepted, may_find_left, take_nothing}
 
 -- Moments.
 
@@ -103,11 +103,6 @@ module _ {F H R W : Type 0} (g : Ghosts F H R W) (folders : Folders) where
 
   up_holds : (e : Engine F H R W g) (l : Ledger) → KeepsUp e l → has_failed e ≡ false → contents_of e ≡ accepted_contents l
   up_holds e l keeps alive = all_held e ∙ ap (λ m. after_batches m (unsynced_of e)) keeps.durable_is ∙ ap (after_batches (durable_contents l)) (keeps.stands alive)
-
-  -- the first of no batches
-  take_nothing : (n : ℕ) → take {A = Batch} n [] ≡ []
-  take_nothing zero = refl
-  take_nothing (suc n) = refl
 
   alone : (m found : Contents) → IsAllowedFrom 0 m [] found → found ≡ m
   alone m found allowed = ∥∥₁_elim allowed (hlevel props) (λ x. x.3 ∙ ap (after_batches m) (take_nothing x.0))

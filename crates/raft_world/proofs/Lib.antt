@@ -7,3 +7,4 @@ mod HappensLemmas
 mod NumberLemmas
 mod PlainLemmas
 mod EffectLemmas
+mod KeptLemmas

@@ -1,5 +1,5 @@
 -- Numbers.
-use Rattle.std.proofs.Common.{◌≡◌, ◌∙◌, ◌+◌, ◌++◌, ◌∷◌, ℕ, zero, suc, true, false, Bool, List, [], append-nil, append_assoc, refl, sym, ap, arith, length, subst, inl, inr}
+use Rattle.std.proofs.Common.{◌≡◌, ◌∙◌, ◌+◌, ◌++◌, ◌∷◌, ℕ, zero, suc, true, false, Bool, List, [], append-nil, append_assoc, refl, sym, ap, length, subst, inl, inr}
 use Rattle.std.proofs.lemmas.Bool.{cases_Bool}
 use Rattle.std.specs.Prelude.{take}
 use Rattle.std.proofs.Math.Logic.{∥∥₁_elim, ∥∥₁_map, ∥∥₁_prop}
@@ -17,7 +17,7 @@ use Rattle.raft_world.proofs.Below.{CrashLaws, OnceLaw}
 use Rattle.raft_world.specs.Ledger.{Effect, Ledger, all_durable, durable_contents, interrupted, accepted_contents, after_crash, starts_with}
 use Rattle.raft_world.specs.Once.{ActsOnce}
 use Rattle.raft_world.specs.Happens.{Happens, Node, Running, Down, Begins, BeginsWith, Opened, OpeningFailed, Called, Failed, Rested, Closed, Reopened, GivenUp, Restarted, Untouched, InsideCall, InsideClose, InsideOpening, Crashed, ledger_of}
-use Rattle.raft_world.proofs.LedgerLemmas.{after-append, after_accepting}
+use Rattle.raft_world.proofs.LedgerLemmas.{after-append, after_accepting, none_chosen, take_past}
 use Rattle.raft_world.proofs.HappensLemmas.{is_safe}
 
 -- Acts.
@@ -52,18 +52,9 @@ follow_both m xs ys first next = ∥∥₁_elim first ∥∥₁_prop (λ (a, a_i
   joined m a b a_may (subst (λ l. MayAllAct (after_batches m l) b) (sym a_is) b_may),
 )))
 
-take_past : (xs ys : List Batch) (n : ℕ) → take (length xs + n) (xs ++ ys) ≡ xs ++ take n ys
-take_past [] ys n = let none : length {A = Batch} [] + n ≡ n = omega arith in ap (λ k. take k ys) none
-take_past (x ∷ xs) ys n = let one : length (x ∷ xs) + n ≡ suc (length xs + n) = omega arith in ap (λ k. take k (x ∷ (xs ++ ys))) one ∙ ap (λ l. x ∷ l) (take_past xs ys n)
-
 first_follow : (m : Contents) (xs ys : List Batch) (n : ℕ) → MayFollow m (xs ++ ys) → MayFollow m (xs ++ take n ys)
 first_follow m xs ys n follow = ∥∥₁_map follow (λ (a, is, may).
     (take (length xs + n) a, written_take (length xs + n) a ∙ ap (take (length xs + n)) is ∙ take_past xs ys n, may_take m (length xs + n) a may))
-
-pub none_chosen : (m : Contents) (choice : List Bool) → chosen_of m choice [] ≡ []
-none_chosen m [] = refl
-none_chosen m (true ∷ choice) = refl
-none_chosen m (false ∷ choice) = refl
 
 -- Logs.
 

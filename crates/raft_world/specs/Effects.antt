@@ -4,18 +4,21 @@ use Rattle.std.specs.declared.alloc.Global.{Global}
 use Rattle.raft_base.specs.declared.errors.Fault.{Fault}
 use Rattle.raft_base.specs.declared.errors.Fault.TheVariants as fault
 use Rattle.raft_base.specs.declared.pipe_log.LogQueue.{LogQueue}
+use Rattle.raft_config.specs.Folders.{folders_in}
+use Rattle.raft_config.specs.declared.config.Config.{Config}
 use Rattle.raft_env.specs.declared.env.FileSystem.{Ghosts}
 use Rattle.raft_once.specs.History.{are_numbers}
 use Rattle.raft_once.specs.Numbers.{Pair}
 use Rattle.raft_records.specs.Item.{Batch}
-use Rattle.raft_crash_laws.specs.Crash.{RecoversContents, written_batch}
-use Rattle.raft_log_engine.specs.Calls.{IsCallersWrite, IsCompaction, IsGroupWrite, IsSync}
+use Rattle.raft_crash_laws.specs.Crash.{RecoversContents, pending_of, written_batch}
+use Rattle.raft_log_engine.specs.Advance.{Advances, state_of}
+use Rattle.raft_log_engine.specs.Calls.{IsCompaction, IsGroupWrite, IsSync, IsWrite}
 use Rattle.raft_log_engine.specs.Cause.{plain_part, plain_parts}
 use Rattle.raft_log_engine.specs.Durability.{HasOnlyRead, SameButArmed, StaysFailed, accepted_by, covered_by}
-use Rattle.raft_log_engine.specs.Engine.{contents_of, directory_of, durable_of, folders_of, has_failed, is_known_in, unsynced_of}
+use Rattle.raft_log_engine.specs.Engine.{IsAllSynced, contents_of, directory_of, durable_of, folders_of, has_failed, is_known_in, unsynced_of}
 use Rattle.raft_log_engine.specs.Group.{accepted_in}
 use Rattle.raft_log_engine.specs.Once.{IsWriteOnce, acting_batch}
-use Rattle.raft_log_engine.specs.Opening.{IsClosedIn, IsNewIn, opened_files}
+use Rattle.raft_log_engine.specs.Opening.{IsClosedIn, IsNewIn, Opens, opened_files}
 use Rattle.raft_log_engine.specs.PurgeCalls.{PurgesLog}
 use Rattle.raft_log_engine.specs.Reads.{compact_batch}
 use Rattle.raft_log_engine.specs.declared.engine.Engine.{Engine}
@@ -50,10 +53,13 @@ abbrev pub no_effect : Effect
 no_effect = record { writes = []; accepts = []; syncs = false }
 
 module _ {F H R W : Type 0} (g : Ghosts F H R W) where
-  -- `write`
+  -- `write`, by its clauses `call` and `plain`
   abbrev pub WriteHasEffect : Type 0
   WriteHasEffect = (batch rest : Batch) (sync : Bool) (old new : Engine F H R W g)
-      (result : Result ℕ Fault) → IsCallersWrite batch rest sync old new result
+      (result : Result ℕ Fault) → IsWrite batch rest sync old new result
+      → (let part = plain_part batch in
+      Advances (accepted_by result (written_batch part)) (covered_by result sync)
+      (pending_of (contents_of old) part) (state_of old) (state_of new))
       → HasEffect (write_effect (plain_part batch) sync result) old new
 
   -- `write_once`, with numbers of eight bytes
@@ -131,3 +137,22 @@ module _ {F H R W : Type 0} (g : Ghosts F H R W) where
   abbrev pub KillEnds : Type 0
   KillEnds = (old : Engine F H R W g) (files : F) → g.directory files ≡ directory_of old
       → GivesUp old files
+
+  -- a function that makes no call of the engine
+  abbrev pub NothingHasNoEffect : Type 0
+  NothingHasNoEffect = (e : Engine F H R W g) → HasEffect no_effect e e
+
+  -- an opening that returns an engine, by the clause of each opening
+  abbrev pub OpeningMakesAnew : Type 0
+  OpeningMakesAnew = (config : Config) (files : F) (e : Engine F H R W g) → Opens config files (Ok e)
+      → (folders_of e ≡ folders_in config) × IsAllSynced e × (has_failed e ≡ false)
+
+  -- after an effect that syncs all is synced, and the engine hasn't failed
+  abbrev pub EffectSyncsAll : Type 0
+  EffectSyncsAll = (effect : Effect) (old new : Engine F H R W g) → HasEffect effect old new
+      → effect.syncs ≡ true → IsAllSynced new × (has_failed new ≡ false)
+
+  -- an engine that hasn't failed after a call hadn't failed before it
+  abbrev pub EffectStoodBefore : Type 0
+  EffectStoodBefore = (effect : Effect) (old new : Engine F H R W g) → HasEffect effect old new
+      → has_failed new ≡ false → has_failed old ≡ false

@@ -6,3 +6,5 @@ pub mod Once
 pub mod OneCall
 pub mod ReadFirst
 pub mod Completed
+pub mod Kept
+pub mod Computed

@@ -6,8 +6,10 @@ ghost use Rattle.raft_env.specs.Directory.{Directory, Leaves};
 ghost use Rattle.raft_files.specs.Records.{as_it_is};
 ghost use Rattle.raft_log_engine.specs.Purge.{HasLastId, HasOpenGroup};
 ghost use Rattle.raft_world.specs.Completed.{LastFilesAreCompleted};
-ghost use Rattle.raft_world.specs.Effects.{ArmingHasNoEffect, CloseEnds, CompactionHasEffect, GiveUpEnds, KillEnds, PurgeHasEffect, ReadHasNoEffect, ReopenEnds, SyncHasEffect, WriteGroupHasEffect, WriteHasEffect, WriteOnceHasEffect};
+ghost use Rattle.raft_world.specs.Computed.{AcceptedMayBeFound, BatchesFollowOn, CallsAddBatches, DurableIsFound, FoundIsAFirstPart, NoneIsChosen, SyncsKeepContents};
+ghost use Rattle.raft_world.specs.Effects.{ArmingHasNoEffect, CloseEnds, CompactionHasEffect, EffectStoodBefore, EffectSyncsAll, GiveUpEnds, KillEnds, NothingHasNoEffect, OpeningMakesAnew, PurgeHasEffect, ReadHasNoEffect, ReopenEnds, SyncHasEffect, WriteGroupHasEffect, WriteHasEffect, WriteOnceHasEffect};
 ghost use Rattle.raft_world.specs.Happens.{OpeningsContinue, TheLogIsSafe};
+ghost use Rattle.raft_world.specs.Kept.{CallsKeep, SyncedMayBegin, WhatCallsKeepHolds, WhatCallsKeepIsFound, WritesKeep};
 ghost use Rattle.raft_world.specs.Once.{NumbersActOnce};
 ghost use Rattle.raft_world.specs.OneCall.{CrashInCall};
 ghost use Rattle.raft_world.specs.ReadFirst.{WhatIsKeptIsReadFirst};
@@ -33,6 +35,37 @@ pub fn openings_continue<F: FileSystem>()
     crash_leaves_contents();
     queues_stand_side_by_side();
 }
+
+/// A property that the contents have at first, and that each call keeps, holds of everything that an
+/// opening may find (`found`), and of each engine that hasn't failed and each that an opening
+/// returns (`nodes`). `synced`: events may begin at an engine that is all synced.
+pub fn what_calls_keep_is_found<F: FileSystem>()
+    ensures found { WhatCallsKeepIsFound F.FileSystem }
+    ensures nodes { WhatCallsKeepHolds F.FileSystem }
+    ensures synced { SyncedMayBegin F.FileSystem }
+{
+    the_log_is_safe::<F>();
+}
+
+/// Which calls keep a property: those whose batches each keep it, so calls without batches too
+/// (`batches`), and those that write one batch which keeps it at the contents before the call
+/// (`write`).
+pub fn calls_keep<F: FileSystem>()
+    ensures batches { CallsKeep F.FileSystem }
+    ensures write { WritesKeep F.FileSystem }
+{}
+
+/// What a ledger computes to: what may be found, written out (`found`), that all accepted batches
+/// may be found, and what effects, syncs and batches do to the contents.
+pub fn ledgers_compute()
+    ensures found { FoundIsAFirstPart }
+    ensures accepted { AcceptedMayBeFound }
+    ensures durable { DurableIsFound }
+    ensures sync { SyncsKeepContents }
+    ensures effect { CallsAddBatches }
+    ensures append { BatchesFollowOn }
+    ensures none { NoneIsChosen }
+{}
 
 /// Exactly once: in a log's contents no number of a group has acted twice, unless the group was
 /// cleaned between.
@@ -78,7 +111,8 @@ pub fn a_kill_is_a_crash()
 
 /// Each public call that takes `&mut self` or the engine has its effect by its own contract, one
 /// clause for each. A call with listeners has the clauses of the one without. `kill` isn't a call:
-/// the process ends between two calls.
+/// the process ends between two calls. Nor is `nothing`: a function returns before it calls.
+/// `opening` says what each opening makes, `syncs` and `stood` what any effect says of both engines.
 pub fn calls_have_effects<F: FileSystem>()
     ensures write { WriteHasEffect F.FileSystem }
     ensures write_once { WriteOnceHasEffect F.FileSystem }
@@ -101,4 +135,8 @@ pub fn calls_have_effects<F: FileSystem>()
     ensures reopen { ReopenEnds F.FileSystem }
     ensures give_up { GiveUpEnds F.FileSystem }
     ensures kill { KillEnds F.FileSystem }
+    ensures nothing { NothingHasNoEffect F.FileSystem }
+    ensures opening { OpeningMakesAnew F.FileSystem }
+    ensures syncs { EffectSyncsAll F.FileSystem }
+    ensures stood { EffectStoodBefore F.FileSystem }
 {}

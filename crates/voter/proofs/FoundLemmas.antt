@@ -17,10 +17,10 @@ use Rattle.raft_log_engine.specs.Opening.{Opens}
 use Rattle.raft_log_engine.specs.declared.engine.Engine.{Engine}
 use Rattle.raft_world.specs.Effects.{ArmingHasNoEffect, no_effect}
 use Rattle.raft_world.specs.Happens.{BeginsWith, Called, Crashed, Failed, Happens, HasCrashed, Running, ledger_of}
+use Rattle.raft_world.specs.Kept.{EachCall, Keeps}
 use Rattle.raft_world.specs.Ledger.{Ledger, after_effect, interrupted}
-use Rattle.raft_vote.specs.EachCall.{EachCall}
-use Rattle.raft_vote.specs.HardState.{may_follow, state_in}
-use Rattle.raft_vote.specs.Stays.{MovesOn, NodesVoteOnce, OnlyMovesOn, OtherCallsLeaveIt, Stays}
+use Rattle.raft_vote.specs.HardState.{has_reached, may_follow, state_in}
+use Rattle.raft_vote.specs.Stays.{NodesVoteOnce, OnlyMovesOn, OtherCallsLeaveIt, Stays}
 use Rattle.raft_vote.specs.declared.hard_state.HardState.{HardState}
 use Rattle.voter.specs.Found.{FindsFirstVote, HasVoted, IsFound, first_vote, fresh_folders}
 
@@ -42,7 +42,7 @@ module _ {F H R W : Type 0} (g : Ghosts F H R W) where
   pub has_voted : (config : Config) (files : F) (opened later : Engine F H R W g) → IsDefault config → Opens config files (Ok opened) → OnlyMovesOn opened later → Stays 7 first_vote later → HasVoted later
   has_voted config files opened later fresh opens moves stays = record {
     stays = stays;
-    folders = moves.1.folders ∙ opens.opened.ok.folders_are ∙ in_fresh_folders config fresh;
+    folders = moves.call.folders ∙ opens.opened.ok.folders_are ∙ in_fresh_folders config fresh;
   }
 
   -- the crash of an engine whose storage has these files now, and an opening of what it leaves
@@ -88,14 +88,14 @@ module _ {F H R W : Type 0} (g : Ghosts F H R W) where
     abbrev armed_happened : Happens g (folders_of e) (ledger_of e) (Running armed) l
     armed_happened = Called e armed (ledger_of e) no_effect (BeginsWith e refl alive refl) (arming e armed arms) stands
 
-    armed_each : EachCall g (folders_of e) (ledger_of e) (MovesOn 7) (Running armed) l armed_happened
-    armed_each = (tt, others 7 e no_effect refl refl)
+    armed_each : EachCall g (folders_of e) (ledger_of e) (Keeps (has_reached 7 first_vote)) (Running armed) l armed_happened
+    armed_each = (tt, others 7 e no_effect refl refl (may_follow first_vote))
 
     -- a crash of the last one, by what an opening in the same folders finds
     pub first_vote_found : (left : CrashImage) (folders : Folders) (result : Result HardState Fault) → IsFound 7 later left folders result → folders ≡ fresh_folders → FindsFirstVote later left result
     first_vote_found left folders result found same detectable = elim (cases_Bool (has_failed later)) [
-      | inl failed ↦ found first_vote e (interrupted saves.0 l) voted.stays (Failed armed later l saves.0 armed_happened saves.1 stands failed) (armed_each, saves.2 7) in_folders here
-      | inr stood ↦ found first_vote e (after_effect saves.0 l) voted.stays (Called armed later l saves.0 armed_happened saves.1 stood) (armed_each, saves.2 7) in_folders here
+      | inl failed ↦ found first_vote e (interrupted saves.effect l) voted.stays (Failed armed later l saves.effect armed_happened saves.call stands failed) (armed_each, saves.moves 7 first_vote) in_folders here
+      | inr stood ↦ found first_vote e (after_effect saves.effect l) voted.stays (Called armed later l saves.effect armed_happened saves.call stood) (armed_each, saves.moves 7 first_vote) in_folders here
     ]
       where
         in_folders : folders ≡ folders_of e

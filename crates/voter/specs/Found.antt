@@ -8,10 +8,10 @@ use Rattle.raft_env.specs.declared.env.FileSystem.{Ghosts}
 use Rattle.raft_log_engine.specs.Engine.{directory_of, folders_of}
 use Rattle.raft_log_engine.specs.declared.engine.Engine.{Engine}
 use Rattle.raft_world.specs.Happens.{Happens, Running, ledger_of}
+use Rattle.raft_world.specs.Kept.{EachCall, Keeps}
 use Rattle.raft_world.specs.Ledger.{Ledger}
-use Rattle.raft_vote.specs.EachCall.{EachCall}
-use Rattle.raft_vote.specs.HardState.{may_follow}
-use Rattle.raft_vote.specs.Stays.{MovesOn, Stays}
+use Rattle.raft_vote.specs.HardState.{has_reached, may_follow}
+use Rattle.raft_vote.specs.Stays.{Stays}
 use Rattle.raft_vote.specs.declared.hard_state.HardState.{HardState}
 
 -- the first vote: for node 2 in term 1
@@ -41,6 +41,7 @@ abbrev pub IsFound : {F H R W : Type 0} {g : Ghosts F H R W} → ℕ → Engine 
 IsFound {F} {H} {R} {W} {g} group later left folders result =
     (state : HardState) (e : Engine F H R W g) (l : Ledger) → Stays group state e
     → (happened : Happens g (folders_of e) (ledger_of e) (Running later) l)
-    → EachCall g (folders_of e) (ledger_of e) (MovesOn group) (Running later) l happened
+    → EachCall g (folders_of e) (ledger_of e) (Keeps (has_reached group state)) (Running later) l
+    happened
     → folders ≡ folders_of e → AreDetectableIn (folders_of e) (directory_of later) left
     → IfOk result (λ found. may_follow state found ≡ true)

@@ -1,7 +1,7 @@
 use Rattle.std.specs.Prelude.{ℕ, Option, Vec}
 use Rattle.std.specs.declared.alloc.Global.{Global}
 use Rattle.raft_log_engine.specs.Purge.{HasLastId, HasOpenGroup}
-use Rattle.raft_world.proofs.EffectLemmas.{arming_has_no_effect, close_ends, compaction_has_effect, give_up_ends, kill_ends, purge_has_effect, read_has_no_effect, reopen_ends, sync_has_effect, write_group_has_effect, write_has_effect, write_once_has_effect}
+use Rattle.raft_world.proofs.EffectLemmas.{arming_has_no_effect, close_ends, compaction_has_effect, effect_syncs_all, give_up_ends, kill_ends, nothing_has_no_effect, opening_makes_anew, purge_has_effect, read_has_no_effect, reopen_ends, stood_before, sync_has_effect, write_group_has_effect, write_has_effect, write_once_has_effect}
 use Rattle.raft_world.proofs.laws.calls_have_effects.Goals as goal
 
 pub returns-clause-write : goal.returns-clause-write
@@ -66,3 +66,15 @@ returns-clause-give_up g c = give_up_ends g.F.FileSystem
 
 pub returns-clause-kill : goal.returns-clause-kill
 returns-clause-kill g c = kill_ends g.F.FileSystem
+
+pub returns-clause-nothing : goal.returns-clause-nothing
+returns-clause-nothing g c = nothing_has_no_effect g.F.FileSystem
+
+pub returns-clause-opening : goal.returns-clause-opening
+returns-clause-opening g c = opening_makes_anew g.F.FileSystem
+
+pub returns-clause-syncs : goal.returns-clause-syncs
+returns-clause-syncs g c = effect_syncs_all g.F.FileSystem
+
+pub returns-clause-stood : goal.returns-clause-stood
+returns-clause-stood g c = stood_before g.F.FileSystem
